@@ -1,6 +1,7 @@
 //! The record of the stage as a cue.
 
 ghost use Rattle.std.specs.Prelude.{◌≡◌, ◌≢◌, IfOk, IfSome, MatchResult, Ok, Some, false};
+ghost use Rattle.lx_io.specs.Causes.{HasCauseOf};
 ghost use Rattle.lx_spec.specs.EditedShow.{with_cue};
 ghost use Rattle.lx_spec.specs.RecordedLevels.{recorded, with_recorded};
 ghost use Rattle.lx_spec.specs.Desk.{Desk};
@@ -13,6 +14,7 @@ use crate::staged::staged;
 use lx_base::CueNo;
 use lx_console::Console;
 use lx_edit::Plan;
+use lx_io::{Heap, SystemHeap};
 use lx_show::{Cue, Refusal, Show};
 
 /// The show after a record of the stage as cue `n`, which is made where it is absent: each channel whose level on
@@ -26,7 +28,22 @@ pub fn recorded(console: &Console, n: CueNo, only: bool) -> Result<Show, Refusal
     requires { n ≢ 0 }
     ensures { (d : Desk) → StandsFor d console.now → Records (recorded d n only) result }
 {
-    recorded_now(console, n, only)
+    let mut heap = SystemHeap::new(console.allocator());
+    recorded_in(&mut heap, console, n, only)
+}
+
+/// The same, by a heap. `Memory` comes only where the heap refused some in this call and the record isn't refused.
+pub fn recorded_in<H: Heap>(
+    heap: &mut H,
+    console: &Console,
+    n: CueNo,
+    only: bool,
+) -> Result<Show, Refusal>
+    requires { n ≢ 0 }
+    ensures records { (d : Desk) → StandsFor d console.now → Records (recorded d n only) result }
+    ensures cause { HasCauseOf Refusal.Memory (H.refusals heap.old) (H.refusals heap.new) result }
+{
+    recorded_now(heap, console, n, only)
 }
 
 /// The plan of that record: it makes the show that `recorded` answers, without a copy of the show.
@@ -35,17 +52,39 @@ pub fn plan_record(console: &Console, n: CueNo, only: bool) -> Result<Plan, Refu
     ensures ready { IfOk result (IsReady console.now.show) }
     ensures plans { (d : Desk) → StandsFor d console.now → PlansRecord console.now.show (recorded d n only) result }
 {
-    let cues = recorded_cues(console, n, only)?;
+    let mut heap = SystemHeap::new(console.allocator());
+    plan_record_in(&mut heap, console, n, only)
+}
+
+/// The same, by a heap. `Memory` comes only where the heap refused some in this call and the record isn't refused.
+pub fn plan_record_in<H: Heap>(
+    heap: &mut H,
+    console: &Console,
+    n: CueNo,
+    only: bool,
+) -> Result<Plan, Refusal>
+    requires { n ≢ 0 }
+    ensures ready { IfOk result (IsReady console.now.show) }
+    ensures plans { (d : Desk) → StandsFor d console.now → PlansRecord console.now.show (recorded d n only) result }
+    ensures cause { HasCauseOf Refusal.Memory (H.refusals heap.old) (H.refusals heap.new) result }
+{
+    let cues = recorded_cues(heap, console, n, only)?;
     Ok(plan_of(n, cues))
 }
 
 /// The same show, of the levels over the live runs.
-fn recorded_now(console: &Console, n: CueNo, only: bool) -> Result<Show, Refusal>
+fn recorded_now<H: Heap>(
+    heap: &mut H,
+    console: &Console,
+    n: CueNo,
+    only: bool,
+) -> Result<Show, Refusal>
     requires { n ≢ 0 }
-    ensures { Records (with_recorded (level_now console.now) console.now.show n only) result }
+    ensures records { Records (with_recorded (level_now console.now) console.now.show n only) result }
+    ensures cause { HasCauseOf Refusal.Memory (H.refusals heap.old) (H.refusals heap.new) result }
 {
-    let cues = recorded_cues(console, n, only)?;
-    Ok(placed(console.show().copy()?, cues))
+    let cues = recorded_cues(heap, console, n, only)?;
+    Ok(placed(console.show().copy_in(heap)?, cues))
 }
 
 /// The cues that a record places.
@@ -58,20 +97,26 @@ struct RecordedCues {
 }
 
 /// The cues that the record of the levels over the live runs places.
-fn recorded_cues(console: &Console, n: CueNo, only: bool) -> Result<RecordedCues, Refusal>
+fn recorded_cues<H: Heap>(
+    heap: &mut H,
+    console: &Console,
+    n: CueNo,
+    only: bool,
+) -> Result<RecordedCues, Refusal>
     requires { n ≢ 0 }
     ensures ready { IfOk result (λ cues. IsReady console.now.show (Plan.Cue n (Some cues.cue) cues.above false)) }
     ensures records { MatchResult result
         (λ cues. with_recorded (level_now console.now) console.now.show n only
         ≡ Ok (with_above cues.above (with_cue console.now.show cues.cue)))
         (IsRefused (with_recorded (level_now console.now) console.now.show n only)) }
+    ensures cause { HasCauseOf Refusal.Memory (H.refusals heap.old) (H.refusals heap.new) result }
 {
     let before = console.show();
     if !before.has_room_for(n) {
         return Err(Refusal::CueLimit);
     }
-    let cue = staged(console, n)?;
-    let above = kept_above(console, n, only)?;
+    let cue = staged(heap, console, n)?;
+    let above = kept_above(heap, console, n, only)?;
     Ok(RecordedCues { cue, above })
 }
 

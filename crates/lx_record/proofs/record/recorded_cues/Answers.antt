@@ -5,19 +5,19 @@ use Rattle.lx_record.proofs.RecordedCues.{recorded_cue}
 use Rattle.lx_record.proofs.record.recorded_cues.Goals as goal
 
 pub returns-in_err-cue-clause-records : goal.returns-in_err-cue-clause-records
-returns-in_err-cue-clause-records c =
+returns-in_err-cue-clause-records g c =
     wants _ _ c.from_residual.result _ (accepted (level_now c.args.console.now) c.args.console.now.show c.show-before.result.now c.args.n
     c.args.only c.has_room_for.result c.show-before.ensures c.has_room_for.ensures.valid c.has_room_for.ensures.room c.if-not-has_room_for.false)
     c.from_residual.ensures.1
 
 pub returns-in_err-above-clause-records : goal.returns-in_err-above-clause-records
-returns-in_err-above-clause-records c =
+returns-in_err-above-clause-records g c =
     wants _ _ c.from_residual-in_err-above.result _ (accepted (level_now c.args.console.now) c.args.console.now.show
     c.show-before.result.now c.args.n c.args.only c.has_room_for.result c.show-before.ensures c.has_room_for.ensures.valid
     c.has_room_for.ensures.room c.if-not-has_room_for.false) c.from_residual-in_err-above.ensures.1
 
 pub returns-clause-ready : goal.returns-clause-ready
-returns-clause-ready c =
+returns-clause-ready g c =
     let show = c.args.console.now.show in
     let levels = level_now c.args.console.now in
     let number : c.in_ok-cue.cue.number ≡ c.args.n = ap (λ (q : Cue). q.number) c.in_ok-cue.ensures.cue ∙ recorded_number levels show c.args.n in
@@ -35,7 +35,7 @@ returns-clause-ready c =
     }
 
 pub returns-clause-records : goal.returns-clause-records
-returns-clause-records c =
+returns-clause-records g c =
     let show = c.args.console.now.show in
     let levels = level_now c.args.console.now in
     accepted levels show c.show-before.result.now c.args.n c.args.only c.has_room_for.result c.show-before.ensures c.has_room_for.ensures.valid

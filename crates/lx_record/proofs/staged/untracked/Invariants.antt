@@ -2,5 +2,8 @@ use Rattle.lx_record.proofs.Imports.{◌≡◌, ◌-◌, map, filter, not, ◌==
 use Rattle.lx_record.proofs.staged.untracked.Given as goal
 
 abbrev pub invariant-loop-k : goal.invariant-loop-k
-invariant-loop-k l = l.members.items ≡ map (λ c. record { chan = c; level = level_now l.console c })
-    (filter (λ c. not (level_now l.console c == tracked l.console.show l.n c)) (range_with_len 1 (l.k - 1)))
+invariant-loop-k g l = record {
+  items : l.members.items ≡ map (λ c. record { chan = c; level = level_now l.console c })
+      (filter (λ c. not (level_now l.console c == tracked l.console.show l.n c)) (range_with_len 1 (l.k - 1)));
+  count : g.H.Heap.refusals l.heap ≡ g.H.Heap.refusals l.initial.heap;
+}
