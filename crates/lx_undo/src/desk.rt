@@ -1,6 +1,7 @@
 //! The desk with its history.
 
 ghost use Rattle.std.specs.Prelude.{◌≡◌, ◌≢◌, true, IfOk, OnErr};
+ghost use Rattle.lx_io.specs.Causes.{HasCause, HasCauseOf};
 ghost use Rattle.lx_spec.specs.ValidEdit.{ValidCommand, ValidEdit};
 ghost use Rattle.lx_spec.specs.Desk.{is_edit};
 ghost use Rattle.lx_spec.specs.Undo.{UndoState, opened_with, with_show, replaced, undo_step, record_step, undo, redo};
@@ -12,8 +13,8 @@ use lx_base::CueNo;
 use lx_console::Console;
 use lx_edit::Plan;
 use lx_edit::planning::plan;
-use lx_io::SystemHeap;
-use lx_record::plan_record;
+use lx_io::{Heap, SystemHeap};
+use lx_record::plan_record_in;
 use lx_show::{Command, Edit, Refusal, Show};
 use lx_spec::UndoFault;
 use std::alloc::{AllocError, Global};
@@ -45,9 +46,17 @@ impl UndoDesk {
     pub fn open(alloc: Global, show: Show, depth: usize) -> Result<UndoDesk, AllocError>
         ensures { IfOk result (UndoStands (opened_with show depth)) }
     {
+        UndoDesk::open_in(&mut SystemHeap::new(alloc), show, depth)
+    }
+
+    /// The same, by a heap. An error comes where the heap refuses memory.
+    pub fn open_in<H: Heap>(heap: &mut H, show: Show, depth: usize) -> Result<UndoDesk, AllocError>
+        ensures stands { IfOk result (UndoStands (opened_with show depth)) }
+        ensures cause { HasCause (H.refusals heap.old) (H.refusals heap.new) result }
+    {
         Ok(UndoDesk {
-            console: Console::open(alloc, show)?,
-            history: UndoPlans::open(alloc, depth)?,
+            console: Console::open_in(heap, show)?,
+            history: UndoPlans::open_in(heap, depth)?,
         })
     }
 
@@ -68,20 +77,32 @@ impl UndoDesk {
             → TakesUndoStep (is_edit command.now) (undo_step s command.now) result self.new }
         ensures unchanged { OnErr result (self.new ≡ self.old) }
     {
+        let mut heap = SystemHeap::new(self.console().allocator());
+        self.command_in(&mut heap, command)
+    }
+
+    /// The same, by a heap. An edit is refused with `Memory` only where the heap refused memory in this call. Keys and ticks take none.
+    pub fn command_in<H: Heap>(&mut self, heap: &mut H, command: &Command) -> Result<(), Refusal>
+        requires { ValidCommand command.now }
+        ensures steps { (s : UndoState) → UndoStands s self.old
+            → TakesUndoStep (is_edit command.now) (undo_step s command.now) result self.new }
+        ensures unchanged { OnErr result (self.new ≡ self.old) }
+        ensures cause { HasCauseOf Refusal.Memory (H.refusals heap.old) (H.refusals heap.new) result }
+    {
         match command {
-            Command::Edit(edit) => self.edit(edit),
-            _ => self.console.command(command),
+            Command::Edit(edit) => self.edit(heap, edit),
+            _ => self.console.command_in(heap, command),
         }
     }
 
     /// An edit, planned whole and applied whole.
-    fn edit(&mut self, edit: &Edit) -> Result<(), Refusal>
+    fn edit<H: Heap>(&mut self, heap: &mut H, edit: &Edit) -> Result<(), Refusal>
         requires { ValidEdit edit.now }
         ensures steps { (s : UndoState) → UndoStands s self.old → TakesUndoStep true (undo_step s (Command.Edit edit.now)) result self.new }
         ensures unchanged { OnErr result (self.new ≡ self.old) }
+        ensures cause { HasCauseOf Refusal.Memory (H.refusals heap.old) (H.refusals heap.new) result }
     {
-        let mut heap = SystemHeap::new(self.console.allocator());
-        let plan = plan(&mut heap, self.console.show(), edit)?;
+        let plan = plan(heap, self.console.show(), edit)?;
         self.apply(plan);
         Ok(())
     }
@@ -106,7 +127,18 @@ impl UndoDesk {
         ensures steps { (s : UndoState) → UndoStands s self.old → TakesUndoStep true (record_step s n only) result self.new }
         ensures unchanged { OnErr result (self.new ≡ self.old) }
     {
-        let plan = plan_record(&self.console, n, only)?;
+        let mut heap = SystemHeap::new(self.console().allocator());
+        self.record_in(&mut heap, n, only)
+    }
+
+    /// The same, by a heap. `Memory` comes only where the heap refused some in this call and the record isn't refused.
+    pub fn record_in<H: Heap>(&mut self, heap: &mut H, n: CueNo, only: bool) -> Result<(), Refusal>
+        requires { n ≢ 0 }
+        ensures steps { (s : UndoState) → UndoStands s self.old → TakesUndoStep true (record_step s n only) result self.new }
+        ensures unchanged { OnErr result (self.new ≡ self.old) }
+        ensures cause { HasCauseOf Refusal.Memory (H.refusals heap.old) (H.refusals heap.new) result }
+    {
+        let plan = plan_record_in(heap, &self.console, n, only)?;
         self.apply(plan);
         Ok(())
     }
