@@ -9,6 +9,8 @@ use Rattle.lx_io.specs.Told.{ToldBySink}
 use Rattle.lx_spec.specs.declared.Line.TheVariants as lines
 use Rattle.lx_session.specs.declared.tally.Tally.{Tally}
 use Rattle.lx_session.specs.LineReply.{reply_to, counts_after, counts_in}
+use Rattle.lx_session.specs.Spared.{spared}
+use Rattle.lx_session.proofs.Stood.{spares}
 use Rattle.lx_lists.proofs.SecondLines.{quit_is_first}
 
 -- the state after the attempts of a line of the first list that asks for no frame, and of one of the second
@@ -46,10 +48,10 @@ for_second failed s line is =
     ap (λ (b : Bool). if b then second_answer failed s (second_meaning line) else first_answer failed s (line_of line)) is
 
 module _ {K T : Type 0} (told : ToldBySink K) (sink sink' : K) (result : Result T SinkFault)
-    (s : Session TwoDesks) (line : List ℕ) (t : TwoKept) (tally : Tally) where
+    (s : Session TwoDesks) (line : List ℕ) (t : TwoKept) (tally : Tally) (ample : Bool) where
   pub answered_second : is_for_second line ≡ true
-      → TurnAnswer true (Stays s.state.first t.first) told sink sink' result s.counts (begun s.state.second) (second_meaning line) t.second tally
-      → OneAnswer two_answering told sink sink' result s line (λ (state : TwoDesks). TwoStand state t) tally
+      → TurnAnswer (ample ≡ true) true (Stays s.state.first t.first) told sink sink' result s.counts (begun s.state.second) (second_meaning line) t.second tally
+      → OneAnswer (spared ample two_answering) told sink sink' result s line (λ (state : TwoDesks). TwoStand state t) tally
   answered_second is a =
       let now : Attempt = record { state = a.now; refusal = a.refusal } in
       let next = on_second s (second_meaning line) now in
@@ -59,8 +61,9 @@ module _ {K T : Type 0} (told : ToldBySink K) (sink sink' : K) (result : Result 
         failed = a.failed;
         goes_on = record {
           is = for_second a.failed s line is ∙ ap (on_second s (second_meaning line)) a.is;
-          allowed = allowed_some a.failed (TwoMayFail s.state line (is_for_second line))
-              (λ failed. subst (TwoMayFail s.state line) (sym is) (a.at_edit failed refl));
+          allowed = spares ample a.failed (TwoMayFail s.state line (is_for_second line)) a.none
+              (allowed_some a.failed (TwoMayFail s.state line (is_for_second line))
+              (λ failed. subst (TwoMayFail s.state line) (sym is) (a.at_edit failed refl)));
         };
         stands = subst (λ (x : TwoDesks). TwoStand x t) (sym r.state) (record { first = a.listened; second = a.stands });
         reply = reply_to a.now.desk (second_meaning line) a.refusal;
@@ -71,8 +74,8 @@ module _ {K T : Type 0} (told : ToldBySink K) (sink sink' : K) (result : Result 
       }
 
   pub answered_first : is_for_second line ≡ false → frame_of (line_of line) ≡ None
-      → TurnAnswer true (TicksReach s.state.second t.second) told sink sink' result s.counts (begun s.state.first) (line_of line) t.first tally
-      → OneAnswer two_answering told sink sink' result s line (λ (state : TwoDesks). TwoStand state t) tally
+      → TurnAnswer (ample ≡ true) true (TicksReach s.state.second t.second) told sink sink' result s.counts (begun s.state.first) (line_of line) t.first tally
+      → OneAnswer (spared ample two_answering) told sink sink' result s line (λ (state : TwoDesks). TwoStand state t) tally
   answered_first is none a =
       let now : Attempt = record { state = a.now; refusal = a.refusal } in
       let next = on_first s (line_of line) now in
@@ -82,8 +85,9 @@ module _ {K T : Type 0} (told : ToldBySink K) (sink sink' : K) (result : Result 
         failed = a.failed;
         goes_on = record {
           is = for_first a.failed s line is ∙ first_is a.failed s (line_of line) none ∙ ap (on_first s (line_of line)) a.is;
-          allowed = allowed_some a.failed (TwoMayFail s.state line (is_for_second line))
-              (λ failed. subst (TwoMayFail s.state line) (sym is) (a.at_edit failed refl));
+          allowed = spares ample a.failed (TwoMayFail s.state line (is_for_second line)) a.none
+              (allowed_some a.failed (TwoMayFail s.state line (is_for_second line))
+              (λ failed. subst (TwoMayFail s.state line) (sym is) (a.at_edit failed refl)));
         };
         stands = subst (λ (x : TwoDesks). TwoStand x t) (sym r.state) (record {
           first = a.stands;
@@ -98,7 +102,7 @@ module _ {K T : Type 0} (told : ToldBySink K) (sink sink' : K) (result : Result 
   -- a frame of both
   pub answered_frame : (u : ℕ) → is_for_second line ≡ false → line_of line ≡ Some (lines.Frame u) → TwoStand s.state t
       → s.counts ≡ counts_in tally → Puts told sink sink' result (frame_text [] s.state.first.playback.moment u (frame_of_two s.state u))
-      → OneAnswer two_answering told sink sink' result s line (λ (state : TwoDesks). TwoStand state t) tally
+      → OneAnswer (spared ample two_answering) told sink sink' result s line (λ (state : TwoDesks). TwoStand state t) tally
   answered_frame u is frame stand counts puts = record {
     next = with_text s (frame_text [] s.state.first.playback.moment u (frame_of_two s.state u));
     failed = None;

@@ -1,49 +1,55 @@
 //! The commands of a line, attempted on the list that they are for.
 
-ghost use Rattle.std.specs.Prelude.{◌≡◌, None, IfSome, IsTrue, true};
+ghost use Rattle.std.specs.Prelude.{◌≡◌, ◌≢◌, ◌≤◌, None, Some, IfSome, IsTrue, true};
 ghost use Rattle.lx_spec.specs.DeskSession.{begun, command_of};
 ghost use Rattle.lx_spec.specs.TwoLists.{TwoDesks, commands_second};
 ghost use Rattle.lx_spec.specs.ValidEdit.{ValidCommand, ValidLine};
 ghost use Rattle.lx_session.specs.Attempts.{Attempted, heard_of};
 ghost use Rattle.lx_session.specs.LineProgress.{LineProgress};
+ghost use Rattle.lx_session.specs.Spared.{HasStood};
 ghost use Rattle.lx_session.specs.LineState.{next_of, unattempted};
 ghost use Rattle.lx_lists.specs.TwoListsMeaning.{TwoStand};
 ghost use Rattle.lx_lists.specs.OtherList.{TicksReach, Stays};
 
 use crate::desk::TwoLists;
+use lx_io::Heap;
 use lx_session::Turn;
 use lx_show::{Command, Refusal};
 
 /// Attempts the commands of a line of the first list; its ticks are of both.
-pub(crate) fn attempt_all(desk: &mut TwoLists, turn: &mut Turn)
+pub(crate) fn attempt_all<H: Heap>(desk: &mut TwoLists, heap: &mut H, turn: &mut Turn)
     requires start { turn.old ≡ unattempted turn.old.meaning }
     requires valid { IfSome turn.old.meaning ValidLine }
     ensures over { next_of turn.new ≡ None }
     ensures meaning { turn.new.meaning ≡ turn.old.meaning }
     ensures tried { (s : TwoDesks) → TwoStand s desk.old
         → LineProgress true (TicksReach s.second desk.new.second) (begun s.first) turn.old turn.new desk.new.first }
+    ensures memory { HasStood (H.refusals heap.old) (H.refusals heap.new) → turn.new.refusal ≢ Some Refusal.Memory }
+    ensures later { H.refusals heap.old ≤ H.refusals heap.new }
 {
     'commands: while let Some(command) = turn.next() {
-        let refusal = attempt(desk, command);
+        let refusal = attempt(desk, heap, command);
         turn.attempted(refusal);
     }
 }
 
 /// Attempts a command of the first list, or a tick of both.
-fn attempt(desk: &mut TwoLists, command: &Command) -> Option<Refusal>
+fn attempt<H: Heap>(desk: &mut TwoLists, heap: &mut H, command: &Command) -> Option<Refusal>
     requires { ValidCommand command.now }
     ensures first { (s : TwoDesks) → TwoStand s desk.old → Attempted true s.first command.now result desk.new.first }
     ensures second { (s : TwoDesks) → TwoStand s desk.old
         → TicksReach s.second desk.new.second (heard_of command.now result) }
+    ensures memory { HasStood (H.refusals heap.old) (H.refusals heap.new) → result ≢ Some Refusal.Memory }
+    ensures later { H.refusals heap.old ≤ H.refusals heap.new }
 {
     match command {
         Command::Tick => desk.tick().err(),
-        _ => desk.first(command).err(),
+        _ => desk.first_in(heap, command).err(),
     }
 }
 
 /// Attempts the command of a line of the second list, if it has one.
-pub(crate) fn attempt_second(desk: &mut TwoLists, turn: &mut Turn)
+pub(crate) fn attempt_second<H: Heap>(desk: &mut TwoLists, heap: &mut H, turn: &mut Turn)
     requires start { turn.old ≡ unattempted turn.old.meaning }
     requires valid { IfSome turn.old.meaning ValidLine }
     requires taken { IfSome (command_of turn.old.meaning) (λ command. IsTrue (commands_second command)) }
@@ -51,9 +57,11 @@ pub(crate) fn attempt_second(desk: &mut TwoLists, turn: &mut Turn)
     ensures meaning { turn.new.meaning ≡ turn.old.meaning }
     ensures tried { (s : TwoDesks) → TwoStand s desk.old
         → LineProgress true (Stays s.first desk.new.first) (begun s.second) turn.old turn.new desk.new.second }
+    ensures memory { HasStood (H.refusals heap.old) (H.refusals heap.new) → turn.new.refusal ≢ Some Refusal.Memory }
+    ensures later { H.refusals heap.old ≤ H.refusals heap.new }
 {
     if let Some(command) = turn.next() {
-        let refusal = desk.second(command).err();
+        let refusal = desk.second_in(heap, command).err();
         turn.attempted(refusal);
     }
 }

@@ -1,7 +1,8 @@
 //! Two cue lists beside each other.
 
-ghost use Rattle.std.specs.Prelude.{◌≡◌, ℕ, ◌≤◌, false, IfOk, IsTrue, OnErr};
+ghost use Rattle.std.specs.Prelude.{◌≡◌, ◌≢◌, ℕ, ◌≤◌, false, Err, IfOk, IsTrue, OnErr};
 ghost use Rattle.lx_base.specs.declared.TheConstants.{SLOTS, UNIVERSES};
+ghost use Rattle.lx_io.specs.Causes.{HasCause, HasCauseOf};
 ghost use Rattle.lx_spec.specs.ValidEdit.{ValidCommand};
 ghost use Rattle.lx_spec.specs.Desk.{is_edit};
 ghost use Rattle.lx_spec.specs.Desk.{Desk};
@@ -16,6 +17,7 @@ use crate::output::Output;
 use crate::split::{leave_first, second_of};
 use lx_base::{Level, Moment};
 use lx_console::Player;
+use lx_io::{Heap, SystemHeap};
 use lx_show::{Command, Refusal, Show};
 use std::alloc::{AllocError, Global};
 use std::marker::Model;
@@ -48,11 +50,20 @@ impl TwoLists {
     pub fn open(alloc: Global, show: Show) -> Result<TwoLists, AllocError>
         ensures { IfOk result (TwoStand (opened_two show)) }
     {
-        let second = Player::open(alloc, second_of(&show)?)?;
+        TwoLists::open_in(&mut SystemHeap::new(alloc), show)
+    }
+
+    /// The same, by a heap. An error comes where the heap refuses memory.
+    pub fn open_in<H: Heap>(heap: &mut H, show: Show) -> Result<TwoLists, AllocError>
+        ensures stand { IfOk result (TwoStand (opened_two show)) }
+        ensures cause { HasCause (H.refusals heap.old) (H.refusals heap.new) result }
+    {
+        let apart = second_of(heap, &show)?;
+        let second = Player::open_in(heap, apart)?;
         let mut show = show;
         leave_first(&mut show);
-        let mut output = Output::open(alloc, &show)?;
-        let first = Player::open(alloc, show)?;
+        let mut output = Output::open_in(heap, &show)?;
+        let first = Player::open_in(heap, show)?;
         output.fill(&first, &second);
         Ok(TwoLists {
             first,
@@ -66,6 +77,11 @@ impl TwoLists {
         ensures { result.now ≡ list_of self.now second }
     {
         if second { &self.second } else { &self.first }
+    }
+
+    /// Where edits take their memory, where they aren't given a heap.
+    pub fn allocator(&self) -> Global {
+        self.first.allocator()
     }
 
     /// The present moment of both, in hundredths of a second since the opening.
@@ -99,7 +115,21 @@ impl TwoLists {
         ensures unchanged { OnErr result (self.new ≡ self.old) }
         ensures other { self.new.second ≡ self.old.second }
     {
-        let change = self.first.command(command)?;
+        let mut heap = SystemHeap::new(self.allocator());
+        self.first_in(&mut heap, command)
+    }
+
+    /// The same, by a heap. An edit is refused with `Memory` only where the heap refused memory in this call.
+    pub fn first_in<H: Heap>(&mut self, heap: &mut H, command: &Command) -> Result<(), Refusal>
+        requires valid { ValidCommand command.now }
+        requires taken { is_tick command.now ≡ false }
+        ensures steps { (s : TwoDesks) → TwoStand s self.old
+            → TakesStep (is_edit command.now) (first_step s command.now) result self.new }
+        ensures unchanged { OnErr result (self.new ≡ self.old) }
+        ensures other { self.new.second ≡ self.old.second }
+        ensures cause { HasCauseOf Refusal.Memory (H.refusals heap.old) (H.refusals heap.new) result }
+    {
+        let change = self.first.command_in(heap, command)?;
         self.output.follow(change, &self.first, &self.second);
         Ok(())
     }
@@ -117,7 +147,21 @@ impl TwoLists {
         ensures unchanged { OnErr result (self.new ≡ self.old) }
         ensures other { self.new.first ≡ self.old.first }
     {
-        let change = self.second.command(command)?;
+        let mut heap = SystemHeap::new(self.allocator());
+        self.second_in(&mut heap, command)
+    }
+
+    /// The same, by a heap. An edit is refused with `Memory` only where the heap refused memory in this call.
+    pub fn second_in<H: Heap>(&mut self, heap: &mut H, command: &Command) -> Result<(), Refusal>
+        requires valid { ValidCommand command.now }
+        requires taken { IsTrue (commands_second command.now) }
+        ensures steps { (s : TwoDesks) → TwoStand s self.old
+            → TakesStep (is_edit command.now) (second_step s command.now) result self.new }
+        ensures unchanged { OnErr result (self.new ≡ self.old) }
+        ensures other { self.new.first ≡ self.old.first }
+        ensures cause { HasCauseOf Refusal.Memory (H.refusals heap.old) (H.refusals heap.new) result }
+    {
+        let change = self.second.command_in(heap, command)?;
         if !change.is_nothing() {
             self.output.refill(&self.first, &self.second);
         }
@@ -132,6 +176,7 @@ impl TwoLists {
         ensures first { (d : Desk) → StandsFor d self.old.first → Obeys d Command.Tick result self.new.first }
         ensures second { (d : Desk) → StandsFor d self.old.second → Obeys d Command.Tick result self.new.second }
         ensures unchanged { OnErr result (self.new ≡ self.old) }
+        ensures memory { result ≢ Err Refusal.Memory }
     {
         let first = self.first.tick()?;
         let Ok(second) = self.second.tick() else {

@@ -11,4 +11,4 @@ mod session;
 mod split;
 
 pub use desk::TwoLists;
-pub use session::two_session;
+pub use session::{two_session, two_session_in};

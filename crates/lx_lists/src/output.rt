@@ -1,15 +1,17 @@
 //! What both lists put out together.
 
 ghost use Rattle.std.specs.Prelude.{◌≡◌, max, length, slice_index, EachIndex, IfOk};
+ghost use Rattle.lx_io.specs.Causes.{HasCause};
 ghost use Rattle.lx_patch.specs.DimmerTable.{StandsForPatch};
 ghost use Rattle.lx_console.specs.KeptOutput.{IsPatchedBut, SlotsStand};
 ghost use Rattle.lx_lists.specs.KeptLists.{HasRoomForFrames, IsFilled, WasFilled};
 
 use lx_base::{Dimmer, Level};
 use lx_console::{Change, KeptOutput, Player};
+use lx_io::{Heap, filled};
 use lx_mixer::mix_into;
 use lx_show::Show;
-use std::alloc::{AllocError, Global};
+use std::alloc::AllocError;
 
 /// The outputs of the channels and the slots of the dimmers, from both lists.
 #[derive(Drop)]
@@ -20,15 +22,16 @@ pub(crate) struct Output {
 }
 
 impl Output {
-    /// An output for the show, whose patch alone is filled in yet. An error comes where memory runs out.
-    pub(crate) fn open(alloc: Global, show: &Show) -> Result<Output, AllocError>
+    /// An output for the show, whose patch alone is filled in yet. An error comes where the heap refuses memory.
+    pub(crate) fn open_in<H: Heap>(heap: &mut H, show: &Show) -> Result<Output, AllocError>
+        ensures cause { HasCause (H.refusals heap.old) (H.refusals heap.new) result }
         ensures room { IfOk result (HasRoomForFrames show.now) }
         ensures patch { IfOk result (λ output. StandsForPatch show.now.patch output.kept.table) }
     {
         let channels = show.channels() as usize;
         Ok(Output {
-            greatest: vec![in alloc; 0; channels]?,
-            kept: KeptOutput::open(alloc, show)?,
+            greatest: filled(heap, 0, channels)?,
+            kept: KeptOutput::open_in(heap, show)?,
         })
     }
 

@@ -1,6 +1,6 @@
 //! Sessions of two lists: a line whose first token is 2 is for the second one.
 
-ghost use Rattle.std.specs.Prelude.{◌≡◌, ◌≤◌, List, ℕ, IfOk, IfSome, None, not, true, false, option_copied, [], OnOk};
+ghost use Rattle.std.specs.Prelude.{◌≡◌, ◌≤◌, List, ℕ, Bool, IfOk, IfSome, None, not, true, false, option_copied, [], OnOk};
 ghost use Rattle.lx_base.specs.declared.TheConstants.{INPUT_BYTES};
 ghost use Rattle.lx_io.specs.Puts.{HasSinkCause};
 ghost use Rattle.lx_lex.specs.Unread.{CanAdvance, SameSource, bytes_taken, source_left, unread};
@@ -8,6 +8,7 @@ ghost use Rattle.lx_spec.specs.Session.{Session, ends_script};
 ghost use Rattle.lx_spec.specs.TwoLists.{TwoDesks, two_answering, is_for_second};
 ghost use Rattle.lx_session.specs.LineReply.{TallyHasRoom, HasOneMore, counts_in};
 ghost use Rattle.lx_session.specs.OneAnswer.{IsLine, OneAnswer};
+ghost use Rattle.lx_session.specs.Spared.{HasStood, spared};
 ghost use Rattle.lx_session.specs.ScriptAnswer.{ScriptAnswered};
 ghost use Rattle.lx_session.specs.SessionOutcome.{HasSessionCause, KeepsLimit};
 ghost use Rattle.lx_lists.specs.TwoListsMeaning.{TwoStand};
@@ -17,9 +18,10 @@ use crate::attempts::{attempt_all, attempt_second};
 use crate::desk::TwoLists;
 use crate::frame::put_universe;
 use lx_base::LINE_BYTES;
-use lx_io::{Sink, SinkFault, Source};
+use lx_io::{Heap, Sink, SinkFault, Source};
 use lx_lex::{Lines, rest_after, tokens};
-use lx_session::{Answers, SessionFault, Tally, Turn, answer_lines};
+use lx_session::{Answers, SessionFault, Tally, Turn, answer_lines, answer_lines_in};
+use std::alloc::Global;
 
 /// Answers the script lines that are left, up to `quit` or the end, on two lists. A line whose first token is `2` is
 /// for the second list, and its rest is read as a line. Any other line is for the first list, but that a tick is of both,
@@ -48,6 +50,29 @@ pub fn two_session<S: Source, K: Sink>(
     answer_lines(desk, lines, sink)
 }
 
+/// The same, by a heap: where it refused nothing in this call, no edit was refused for want of memory.
+pub fn two_session_in<H: Heap, S: Source, K: Sink>(
+    desk: &mut TwoLists,
+    heap: &mut H,
+    lines: &mut Lines<S>,
+    sink: &mut K,
+) -> Result<Tally, SessionFault>
+    requires going { CanAdvance lines.old }
+    requires within { bytes_taken lines.old ≤ INPUT_BYTES }
+    ensures same_source { SameSource lines.old lines.new }
+    ensures outcome { (ample : Bool) → (ample ≡ true → HasStood (H.refusals heap.old) (H.refusals heap.new))
+        → (state : TwoDesks) → TwoStand state desk.old
+        → IfSome (unread S.Source lines.old)
+        (λ bytes. ScriptAnswered (spared ample two_answering) (λ s. TwoStand s desk.new) state (bytes_taken lines.old) bytes
+        (unread S.Source lines.new) (source_left S.Source lines.new) (K.holds sink.old) (K.holds sink.new) result) }
+    ensures limit { IfSome (unread S.Source lines.old) (λ bytes. KeepsLimit (bytes_taken lines.old) bytes result) }
+    ensures cause { HasSessionCause S.Source K.Sink lines.old lines.new sink.old sink.new result }
+    ensures handed_on { OnOk result (K.back sink.new ≡ []) }
+    ensures later { H.refusals heap.old ≤ H.refusals heap.new }
+{
+    answer_lines_in(desk, heap, lines, sink)
+}
+
 impl Answers for TwoLists {
     ghost use Rattle.lx_spec.specs.TwoLists.{two_answering};
     ghost use Rattle.lx_lists.specs.TwoListsMeaning.{TwoStand};
@@ -56,15 +81,20 @@ impl Answers for TwoLists {
 
     ghost stands = { TwoStand };
 
-    fn answer<K: Sink>(
+    fn allocator(&self) -> Global {
+        self.list(false).allocator()
+    }
+
+    fn answer_in<H: Heap, K: Sink>(
         &mut self,
+        heap: &mut H,
         line: Option<&[u8]>,
         sink: &mut K,
         tally: &mut Tally,
     ) -> Result<bool, SinkFault> {
         match rest_for_second(line) {
-            Some(rest) => answer_second(self, rest, sink, tally),
-            None => answer_first(self, line, sink, tally),
+            Some(rest) => answer_second(self, heap, rest, sink, tally),
+            None => answer_first(self, heap, line, sink, tally),
         }
     }
 }
@@ -97,48 +127,54 @@ fn leads_with_two(line: &[u8]) -> bool
 
 /// Does what the rest of a line asks of the second list, then appends its reply and counts it. It answers true: the
 /// session goes on.
-fn answer_second<K: Sink>(
+fn answer_second<H: Heap, K: Sink>(
     desk: &mut TwoLists,
+    heap: &mut H,
     rest: &[u8],
     sink: &mut K,
     tally: &mut Tally,
 ) -> Result<bool, SinkFault>
     requires room { TallyHasRoom tally.old }
-    ensures answered { (s : Session TwoDesks) (text : List ℕ) → TwoStand s.state desk.old → s.counts ≡ counts_in tally.old
+    ensures answered { (ample : Bool) → (ample ≡ true → HasStood (H.refusals heap.old) (H.refusals heap.new))
+        → (s : Session TwoDesks) (text : List ℕ) → TwoStand s.state desk.old → s.counts ≡ counts_in tally.old
         → IsRestFor text rest.now
-        → OneAnswer two_answering K.Sink sink.old sink.new result s text (λ state. TwoStand state desk.new)
+        → OneAnswer (spared ample two_answering) K.Sink sink.old sink.new result s text (λ state. TwoStand state desk.new)
         tally.new }
     ensures more { IfOk result (λ more. more ≡ true) }
     ensures cause { HasSinkCause K.Sink sink.old sink.new result }
     ensures counted { HasOneMore tally.old tally.new }
+    ensures later { H.refusals heap.old ≤ H.refusals heap.new }
 {
     let mut turn = Turn::begin_second(rest);
-    attempt_second(desk, &mut turn);
+    attempt_second(desk, heap, &mut turn);
     turn.finish_without_frame(desk.list(true), sink, tally)
 }
 
 /// Does what a line asks of the first list or of both, then appends its replies and counts them. None stands for a
 /// line that is too long, which is bad. It answers false exactly for `quit`.
-fn answer_first<K: Sink>(
+fn answer_first<H: Heap, K: Sink>(
     desk: &mut TwoLists,
+    heap: &mut H,
     line: Option<&[u8]>,
     sink: &mut K,
     tally: &mut Tally,
 ) -> Result<bool, SinkFault>
     requires room { TallyHasRoom tally.old }
-    ensures answered { (s : Session TwoDesks) (text : List ℕ) → TwoStand s.state desk.old → s.counts ≡ counts_in tally.old
+    ensures answered { (ample : Bool) → (ample ≡ true → HasStood (H.refusals heap.old) (H.refusals heap.new))
+        → (s : Session TwoDesks) (text : List ℕ) → TwoStand s.state desk.old → s.counts ≡ counts_in tally.old
         → IsLine (option_copied line.entry) text → is_for_second text ≡ false
-        → OneAnswer two_answering K.Sink sink.old sink.new result s text (λ state. TwoStand state desk.new)
+        → OneAnswer (spared ample two_answering) K.Sink sink.old sink.new result s text (λ state. TwoStand state desk.new)
         tally.new }
     ensures quit { IfOk result (λ more. (text : List ℕ) → IsLine (option_copied line.entry) text → more ≡ not (ends_script text)) }
     ensures cause { HasSinkCause K.Sink sink.old sink.new result }
     ensures counted { HasOneMore tally.old tally.new }
+    ensures later { H.refusals heap.old ≤ H.refusals heap.new }
 {
     let mut turn = Turn::begin(line);
     match turn.frame_universe() {
         Some(universe) => put_universe(desk, universe, sink),
         None => {
-            attempt_all(desk, &mut turn);
+            attempt_all(desk, heap, &mut turn);
             turn.finish_without_frame(desk.list(false), sink, tally)
         }
     }

@@ -2,18 +2,21 @@
 
 ghost use Rattle.std.specs.Prelude.{◌≡◌, ◌≤◌, ◌<◌, None, IfOk, IfSome, IsTrue};
 ghost use Rattle.lx_base.specs.declared.TheConstants.{SECOND_LIST};
+ghost use Rattle.lx_io.specs.Causes.{HasCause};
 ghost use Rattle.lx_spec.specs.SortedList.{has_entry};
 ghost use Rattle.lx_spec.specs.TwoLists.{first_show, second_show};
 
 use lx_base::{CueNo, SECOND_LIST};
+use lx_io::Heap;
 use lx_show::Show;
 use std::alloc::AllocError;
 
-/// A copy of the show with the cues of the second list. An error comes where memory runs out.
-pub(crate) fn second_of(show: &Show) -> Result<Show, AllocError>
-    ensures { IfOk result (λ second. second ≡ second_show show.now) }
+/// A copy of the show with the cues of the second list. An error comes where the heap refuses memory.
+pub(crate) fn second_of<H: Heap>(heap: &mut H, show: &Show) -> Result<Show, AllocError>
+    ensures second { IfOk result (λ second. second ≡ second_show show.now) }
+    ensures cause { HasCause (H.refusals heap.old) (H.refusals heap.new) result }
 {
-    let mut second = show.copy()?;
+    let mut second = show.copy_in(heap)?;
     leave_second(&mut second);
     Ok(second)
 }

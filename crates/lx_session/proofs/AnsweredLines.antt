@@ -4,7 +4,7 @@ use Rattle.lx_session.proofs.Imports.{refl, sym, ap, ◌∙◌, subst, arith, ap
 use Rattle.lx_session.proofs.Imports.{Kept, Session, Counts, bad_reply, frame, frame_text, DeskState, Attempt, command_of, count_of, tried, after_attempts}
 use Rattle.lx_session.proofs.Imports.{after_meaning, IsAcceptedEdit, MayFailAt, StandsFor, Tally, LineState, next_of, unattempted, LineProgress}
 use Rattle.lx_session.proofs.Imports.{CommandHasFailed, resumed, reply_to, reply_for, counts_after, counts_in, counted as counted_in, ListenedAttempt, heard_of}
-use Rattle.lx_session.proofs.Imports.{after_commands, LineAnswer, ToldBySink}
+use Rattle.lx_session.proofs.Imports.{after_commands, LineAnswer, SparedAnswer, ToldBySink, ◌≢◌, Memory}
 use Rattle.lx_spec.specs.declared.Command.TheVariants as commands
 use Rattle.lx_spec.specs.declared.Line.TheVariants as lines
 use Rattle.lx_script.specs.declared.reply.Reply.{Reply}
@@ -81,8 +81,14 @@ at_an_edit all heard s meaning turn console t is every =
     edit_of_line s.desk t.now.desk meaning
     (t.still (one_attempt t.now.desk meaning w) (refused_then turn.refusal (t.at None) t.not_yet is)) w
 
--- A line was attempted at a desk, in a session of any kind that had counted so, and replied to.
-pub record TurnAnswer {K T : Type 0} (all : Bool) (heard : List Command → Type 0) (told : ToldBySink K)
+-- an attempt that didn't end in Memory didn't fail
+pub unfailed : (failed : Option ℕ) (refusal : Option Refusal) → (is_some failed ≡ true → refusal ≡ Some Memory) → refusal ≢ Some Memory
+    → failed ≡ None
+unfailed None refusal memory other = refl
+unfailed (Some k) refusal memory other = absurd (other (memory refl))
+
+-- A line was attempted at a desk, in a session of any kind that had counted so, and replied to. Where memory was ample no attempt failed.
+pub record TurnAnswer {K T : Type 0} (Ample : Type 0) (all : Bool) (heard : List Command → Type 0) (told : ToldBySink K)
     (sink sink' : K) (result : Result T SinkFault) (counted : Counts) (start : DeskState) (meaning : Option Line) (console : Kept)
     (tally : Tally) : Type 0 where
   pub failed : Option ℕ
@@ -90,6 +96,7 @@ pub record TurnAnswer {K T : Type 0} (all : Bool) (heard : List Command → Type
   pub refusal : Option Refusal
   pub is : tried failed start meaning ≡ record { state = now; refusal = refusal }
   pub at_edit : is_some failed ≡ true → all ≡ true → IsAcceptedEdit start.desk meaning
+  pub none : Ample → failed ≡ None
   pub commands : List Command
   pub accepted : now.accepted ≡ start.accepted ++ commands
   pub desk : now.desk ≡ after_commands start.desk commands
@@ -108,14 +115,14 @@ counts_are : (d : Desk) (own : Counts) (meaning meaning' : Option Line) (refusal
 counts_are d own meaning meaning' refusal before after same counted e =
     ap (λ (c : Counts). counts_after d c meaning refusal) counted ∙ sym (e ∙ ap (λ (m : Option Line). counts_after d before m refusal) same)
 
-pub turn_answered : {K T : Type 0} (all : Bool) (heard : List Command → Type 0) (told : ToldBySink K)
+pub turn_answered : {K T : Type 0} (Ample : Type 0) (all : Bool) (heard : List Command → Type 0) (told : ToldBySink K)
     (sink sink' : K) (result : Result T SinkFault) (own : Counts) (start : DeskState) (meaning : Option Line) (turn : LineState)
     (console : Kept) (before after : Tally)
-    → LineProgress all heard start (unattempted meaning) turn console → next_of turn ≡ None → own ≡ counts_in before
+    → (Ample → turn.refusal ≢ Some Memory) → LineProgress all heard start (unattempted meaning) turn console → next_of turn ≡ None → own ≡ counts_in before
     → ((d : Desk) → StandsFor d console → Puts told sink sink' result (reply_to d turn.meaning turn.refusal))
     → ((d : Desk) → StandsFor d console → OnOk result (counts_in after ≡ counts_after d (counts_in before) turn.meaning turn.refusal))
-    → TurnAnswer all heard told sink sink' result own start meaning console after
-turn_answered all heard told sink sink' result own start meaning turn console before after t done counted puts counts =
+    → TurnAnswer Ample all heard told sink sink' result own start meaning console after
+turn_answered Ample all heard told sink sink' result own start meaning turn console before after other t done counted puts counts =
     let same : turn.meaning ≡ meaning = t.meaning in
     record {
       failed = t.at None;
@@ -123,6 +130,7 @@ turn_answered all heard told sink sink' result own start meaning turn console be
       refusal = turn.refusal;
       is = came_to all heard start meaning turn console t done;
       at_edit = at_an_edit all heard start meaning turn console t;
+      none = λ ample. unfailed (t.at None) turn.refusal t.by_memory (other ample);
       commands = t.commands;
       accepted = t.accepted;
       desk = t.desk;
@@ -144,42 +152,45 @@ counted_so (Ok x) next told after is e = is ∙ e
 counted_so (Err x) next told after is e = tt
 
 -- a line of the desk's own session
-pub line_answered : {K T : Type 0} (all : Bool) (heard : List Command → Type 0) (told : ToldBySink K)
+line_answered : {K T : Type 0} (Ample : Type 0) (all : Bool) (heard : List Command → Type 0) (told : ToldBySink K)
     (sink sink' : K) (result : Result T SinkFault) (s : Session DeskState) (meaning : Option Line) (console : Kept) (tally : Tally)
-    → TurnAnswer all heard told sink sink' result s.counts s.state meaning console tally
-    → LineAnswer all heard told sink sink' result s meaning console tally
-line_answered all heard told sink sink' result s meaning console tally a =
+    → TurnAnswer Ample all heard told sink sink' result s.counts s.state meaning console tally
+    → SparedAnswer Ample all heard told sink sink' result s meaning console tally
+line_answered Ample all heard told sink sink' result s meaning console tally a =
     let t : Attempt = record { state = a.now; refusal = a.refusal } in
     let r = with_reply_is s meaning t a.now in
     record {
-      next = after_attempts s meaning t a.now;
-      failed = a.failed;
-      goes_on = record {
-        is = ap (λ (v : Attempt). after_attempts s meaning v v.state) a.is;
-        allowed = allowed_some a.failed (MayFailAt all s.state.desk meaning) (λ is. may_fail all s.state.desk meaning (a.at_edit is));
-        commands = a.commands;
-        accepted = ap (λ (v : DeskState). v.accepted) r.state ∙ a.accepted;
-        desk = ap (λ (v : DeskState). v.desk) r.state ∙ a.desk;
-        listened = a.listened;
+      answer = record {
+        next = after_attempts s meaning t a.now;
+        failed = a.failed;
+        goes_on = record {
+          is = ap (λ (v : Attempt). after_attempts s meaning v v.state) a.is;
+          allowed = allowed_some a.failed (MayFailAt all s.state.desk meaning) (λ is. may_fail all s.state.desk meaning (a.at_edit is));
+          commands = a.commands;
+          accepted = ap (λ (v : DeskState). v.accepted) r.state ∙ a.accepted;
+          desk = ap (λ (v : DeskState). v.desk) r.state ∙ a.desk;
+          listened = a.listened;
+        };
+        stands = subst (λ (v : DeskState). StandsFor v.desk console) (sym r.state) a.stands;
+        reply = reply_to a.now.desk meaning a.refusal;
+        text = r.text;
+        puts = a.puts;
+        counts = counted_so result (after_attempts s meaning t a.now).counts (counts_after a.now.desk s.counts meaning a.refusal)
+            (counts_in tally) r.counts a.counts;
       };
-      stands = subst (λ (v : DeskState). StandsFor v.desk console) (sym r.state) a.stands;
-      reply = reply_to a.now.desk meaning a.refusal;
-      text = r.text;
-      puts = a.puts;
-      counts = counted_so result (after_attempts s meaning t a.now).counts (counts_after a.now.desk s.counts meaning a.refusal)
-          (counts_in tally) r.counts a.counts;
+      none = a.none;
     }
 
-pub answered : {K T : Type 0} (all : Bool) (heard : List Command → Type 0) (told : ToldBySink K)
+pub answered : {K T : Type 0} (Ample : Type 0) (all : Bool) (heard : List Command → Type 0) (told : ToldBySink K)
     (sink sink' : K) (result : Result T SinkFault) (s : Session DeskState) (meaning : Option Line) (turn : LineState) (console : Kept)
     (before after : Tally)
-    → LineProgress all heard s.state (unattempted meaning) turn console → next_of turn ≡ None → s.counts ≡ counts_in before
+    → (Ample → turn.refusal ≢ Some Memory) → LineProgress all heard s.state (unattempted meaning) turn console → next_of turn ≡ None → s.counts ≡ counts_in before
     → ((d : Desk) → StandsFor d console → Puts told sink sink' result (reply_to d turn.meaning turn.refusal))
     → ((d : Desk) → StandsFor d console → OnOk result (counts_in after ≡ counts_after d (counts_in before) turn.meaning turn.refusal))
-    → LineAnswer all heard told sink sink' result s meaning console after
-answered all heard told sink sink' result s meaning turn console before after t done counted puts counts =
-    line_answered all heard told sink sink' result s meaning console after
-    (turn_answered all heard told sink sink' result s.counts s.state meaning turn console before after t done counted puts counts)
+    → SparedAnswer Ample all heard told sink sink' result s meaning console after
+answered Ample all heard told sink sink' result s meaning turn console before after other t done counted puts counts =
+    line_answered Ample all heard told sink sink' result s meaning console after
+    (turn_answered Ample all heard told sink sink' result s.counts s.state meaning turn console before after other t done counted puts counts)
 
 -- the reply to one command, and what it counts
 reply_is : (d : Desk) (command : Command) (refusal : Option Refusal)
@@ -198,31 +209,38 @@ none_left meaning None = refl
 none_left meaning (Some r) = refl
 
 -- A line of one command, which was attempted and replied to.
-pub one_command : {K T : Type 0} (all : Bool) (heard : List Command → Type 0) (told : ToldBySink K)
+pub one_command : {K T : Type 0} (Ample : Type 0) (all : Bool) (heard : List Command → Type 0) (told : ToldBySink K)
     (sink sink' : K) (result : Result T SinkFault) (s : Session DeskState) (command : Command) (refusal : Option Refusal)
-    (before_it after_it : Kept) (before after : Tally) → StandsFor s.state.desk before_it → s.counts ≡ counts_in before
-    → ((d : Desk) → StandsFor d before_it → ListenedAttempt all d command refusal after_it) → heard (heard_of command refusal)
+    (before_it after_it : Kept) (before after : Tally) → (Ample → refusal ≢ Some Memory) → StandsFor s.state.desk before_it
+    → s.counts ≡ counts_in before → ((d : Desk) → StandsFor d before_it → ListenedAttempt all d command refusal after_it) → heard (heard_of command refusal)
     → (reply : Reply) → reply ≡ reply_for refusal → Puts told sink sink' result (reply_text reply)
     → counts_in after ≡ counted_in reply (counts_in before)
-    → LineAnswer all heard told sink sink' result s (Some (lines.Command command)) after_it after
-one_command all heard told sink sink' result s command refusal before_it after_it before after stands counted attempt h
+    → SparedAnswer Ample all heard told sink sink' result s (Some (lines.Command command)) after_it after
+one_command Ample all heard told sink sink' result s command refusal before_it after_it before after other stands counted attempt h
     reply is puts counts =
     let meaning : Option Line = Some (lines.Command command) in
     let old : LineState = unattempted meaning in
-    answered all heard told sink sink' result s meaning (record { meaning = meaning; left = 0; refusal = refusal }) after_it
-    before after
+    answered Ample all heard told sink sink' result s meaning (record { meaning = meaning; left = 0; refusal = refusal }) after_it
+    before after other
     (attempted_so all (λ done. done ≡ []) heard s.state old old (record { meaning = meaning; left = 0; refusal = refusal }) command refusal
     before_it after_it (nothing_yet all (λ done. done ≡ []) s.state before_it stands old refl refl) refl attempt
     (λ done none. subst (λ first. heard (first ++ heard_of command refusal)) (sym none) h) refl)
     (none_left meaning refusal) counted (λ d here. subst (Puts told sink sink' result) (ap reply_text is ∙ reply_is d command refusal) puts)
     (λ d here. on_ok result _ (counts ∙ ap (λ r. counted_in r (counts_in before)) is ∙ counts_is d (counts_in before) command refusal))
 
+-- no attempt failed at all
+spare : {K T : Type 0} (Ample : Type 0) {all : Bool} {heard : List Command → Type 0} {told : ToldBySink K}
+    {sink sink' : K} {result : Result T SinkFault} {s : Session DeskState} {meaning : Option Line} {console : Kept} {tally : Tally}
+    (a : LineAnswer all heard told sink sink' result s meaning console tally) → a.failed ≡ None
+    → SparedAnswer Ample all heard told sink sink' result s meaning console tally
+spare Ample a none = record { answer = a; none = λ ample. none }
+
 -- A bad line attempts nothing, and was replied to.
-pub bad_line : {K T : Type 0} (all : Bool) (heard : List Command → Type 0) (told : ToldBySink K)
+pub bad_line : {K T : Type 0} (Ample : Type 0) (all : Bool) (heard : List Command → Type 0) (told : ToldBySink K)
     (sink sink' : K) (result : Result T SinkFault) (s : Session DeskState) (console : Kept) (before after : Tally) → StandsFor s.state.desk console
     → s.counts ≡ counts_in before → heard [] → Puts told sink sink' result (reply_text replies.Bad)
-    → counts_in after ≡ counted_in replies.Bad (counts_in before) → LineAnswer all heard told sink sink' result s None console after
-bad_line all heard told sink sink' result s console before after stands counted h puts counts = record {
+    → counts_in after ≡ counted_in replies.Bad (counts_in before) → SparedAnswer Ample all heard told sink sink' result s None console after
+bad_line Ample all heard told sink sink' result s console before after stands counted h puts counts = spare Ample (record {
   next = bad_reply s;
   failed = None;
   goes_on = record {
@@ -239,15 +257,15 @@ bad_line all heard told sink sink' result s console before after stands counted 
   puts = puts;
   counts =
       on_ok result _ (ap (counted_in replies.Bad) counted ∙ sym counts);
-}
+}) refl
 
 -- A line that asks for a frame attempts nothing, and was answered by the frame's text.
-pub frame_line : {K T : Type 0} (all : Bool) (heard : List Command → Type 0) (told : ToldBySink K)
+pub frame_line : {K T : Type 0} (Ample : Type 0) (all : Bool) (heard : List Command → Type 0) (told : ToldBySink K)
     (sink sink' : K) (result : Result T SinkFault) (s : Session DeskState) (u : ℕ) (console : Kept) (tally : Tally)
     → StandsFor s.state.desk console → s.counts ≡ counts_in tally → heard []
     → Puts told sink sink' result (frame_text [] s.state.desk.playback.moment u (frame s.state.desk u))
-    → LineAnswer all heard told sink sink' result s (Some (lines.Frame u)) console tally
-frame_line all heard told sink sink' result s u console tally stands counted h puts = record {
+    → SparedAnswer Ample all heard told sink sink' result s (Some (lines.Frame u)) console tally
+frame_line Ample all heard told sink sink' result s u console tally stands counted h puts = spare Ample (record {
   next = after_meaning None s (Some (lines.Frame u));
   failed = None;
   goes_on = record {
@@ -263,4 +281,4 @@ frame_line all heard told sink sink' result s u console tally stands counted h p
   text = refl;
   puts = puts;
   counts = on_ok result _ counted;
-}
+}) refl

@@ -27,6 +27,7 @@ nothing_yet all heard s console stands turn none nothing = record {
   fewer = omega arith;
   fresh = λ e. refl;
   at_edit = λ e. cc;
+  by_memory = λ e. cc;
   still = λ few some. cc;
 }
 
@@ -122,6 +123,7 @@ accepted all heard heard' s old turn c before_it after_it d t next ok stands joi
       fewer = let le = t.fewer in omega (arith, le);
       fresh = λ e. let le = t.fewer in let some = next.some in absurd (omega (arith, le, some, e));
       at_edit = λ e. let none = ap is_some (t.not_yet next.none) in cc;
+      by_memory = λ e. let none = ap is_some (t.not_yet next.none) in absurd cc;
       still = λ few some. cc;
     }
 
@@ -129,9 +131,10 @@ accepted all heard heard' s old turn c before_it after_it d t next ok stands joi
 refused : (all : Bool) (heard heard' : List Command → Type 0) (s : DeskState) (old turn : LineState) (c : Command) (before_it after_it : Kept)
     (refusal : Refusal) (failed : Option ℕ) (t : LineProgress all heard s old turn before_it) → IsNext turn c
     → attempts_of failed c turn.left t.now ≡ record { state = t.now; refusal = Some refusal }
-    → (is_some (t.at failed) ≡ true → all ≡ true → CommandHasFailed t.now.desk (Some c)) → StandsFor t.now.desk after_it → Joins heard heard' []
+    → (is_some (t.at failed) ≡ true → all ≡ true → CommandHasFailed t.now.desk (Some c)) → (is_some (t.at failed) ≡ true → refusal ≡ Memory)
+    → StandsFor t.now.desk after_it → Joins heard heard' []
     → LineProgress all heard' s old (record { meaning = turn.meaning; left = turn.left - 1; refusal = Some refusal }) after_it
-refused all heard heard' s old turn c before_it after_it refusal failed t next is wanted stands joins =
+refused all heard heard' s old turn c before_it after_it refusal failed t next is wanted memory stands joins =
     let command : command_of old.meaning ≡ Some c = ap command_of (sym t.meaning) ∙ next.command in
     record {
       now = t.now;
@@ -149,6 +152,7 @@ refused all heard heard' s old turn c before_it after_it refusal failed t next i
       fewer = let le = t.fewer in omega (arith, le);
       fresh = λ e. let le = t.fewer in let some = next.some in absurd (omega (arith, le, some, e));
       at_edit = λ e every. subst (λ o. CommandHasFailed t.now.desk o) (sym command) (wanted e every);
+      by_memory = λ e. ap Some (memory e);
       still = λ few some. let le = t.fewer in let more = next.some in let same : turn.left ≡ old.left =
           omega (arith, few, le, more) in t.fresh same;
     }
@@ -170,16 +174,17 @@ attempted_at all heard heard' s old turn c before_it after_it None true t next e
 attempted_at all heard heard' s old turn c before_it after_it None false t next every a joins = absurd a
 attempted_at all heard heard' s old turn c before_it after_it (Some refusal) true t next every a joins = elim a.1 [
   | inl err ↦ refused all heard heard' s old turn c before_it after_it refusal None t next
-      (denied c turn.left t.now refusal next.some err) (λ e. let none = ap is_some (t.not_yet next.none) in absurd cc) a.0 joins
+      (denied c turn.left t.now refusal next.some err) (λ e. let none = ap is_some (t.not_yet next.none) in absurd cc)
+      (λ e. let none = ap is_some (t.not_yet next.none) in absurd cc) a.0 joins
   | inr want ↦
       refused all heard heard' s old turn c before_it after_it refusal (Some 0) t next
       (fails_now c turn.left t.now next.some ∙ ap (λ r. record { state = t.now; refusal = Some r }) (sym want.memory))
-      (λ e every. record { wanted = c; is = refl; edit = want.edit; accepted = want.accepted }) a.0 joins
+      (λ e every. record { wanted = c; is = refl; edit = want.edit; accepted = want.accepted }) (λ e. want.memory) a.0 joins
 ]
 attempted_at all heard heard' s old turn c before_it after_it (Some refusal) false t next every a joins =
     refused all heard heard' s old turn c before_it after_it refusal (Some 0) t next
     (fails_now c turn.left t.now next.some ∙ ap (λ r. record { state = t.now; refusal = Some r }) (sym a.1))
-    (λ e all. let no : false ≡ true = every all in absurd cc) a.0 joins
+    (λ e all. let no : false ≡ true = every all in absurd cc) (λ e. a.1) a.0 joins
 
 pub attempted_so : (all : Bool) (heard heard' : List Command → Type 0) (s : DeskState) (old turn turn' : LineState) (c : Command)
     (refusal : Option Refusal) (before_it after_it : Kept) → LineProgress all heard s old turn before_it → next_of turn ≡ Some c
@@ -217,6 +222,7 @@ admitted_so_far all all' so_far heard s old turn console t = record {
   fewer = t.fewer;
   fresh = t.fresh;
   at_edit = λ some every. t.at_edit some (so_far every);
+  by_memory = t.by_memory;
   still = t.still;
 }
 
@@ -238,6 +244,7 @@ elsewhere all heard s old turn before_it after_it t stands = record {
   fewer = t.fewer;
   fresh = t.fresh;
   at_edit = t.at_edit;
+  by_memory = t.by_memory;
   still = t.still;
 }
 

@@ -1,6 +1,7 @@
 -- What the console's answer to a command comes to.
-use Rattle.lx_session.proofs.Imports.{◌≡◌, Bool, true, false, Option, Some, Result, Ok, Err, OnErr, inl, refl, sym, subst, result_err, Command, Refusal}
-use Rattle.lx_session.proofs.Imports.{Memory, Desk, Kept, StandsFor, Answers, Obeys, Attempted}
+use Rattle.lx_session.proofs.Imports.{◌≡◌, ◌≢◌, ◌∙◌, ℕ, Bool, true, false, Option, None, Some, Result, Ok, Err, OnErr, inl, refl, sym, ap, subst}
+use Rattle.lx_session.proofs.Imports.{arith, result_err, Command, Refusal, Memory, Desk, Kept, StandsFor, Answers, Obeys, Attempted, HasStood}
+use Rattle.lx_io.specs.Causes.{HasCauseOf}
 
 answered_at : (d : Desk) (c : Command) (r : Result (Unit {0}) Refusal) (before after : Kept) → Answers d c r after → StandsFor d before
     → OnErr r (after ≡ before) → Attempted true d c (result_err r) after
@@ -23,3 +24,25 @@ unadmitted admitted d c before none stands = subst (λ b. Attempted b d c (Some 
 pub obeyed : (d : Desk) (c : Command) (r : Result (Unit {0}) Refusal) (after : Kept) → Obeys d c r after → Answers d c r after
 obeyed d c (Ok u) after o = record { ok = o.ok; err = tt }
 obeyed d c (Err refusal) after o = record { ok = tt; err = inl o.err }
+
+-- where all were admitted, none wasn't
+pub not_admitted : {P : Type 0} (admitted : Bool) → admitted ≡ false → admitted ≡ true → P
+not_admitted admitted none every = let no : false ≡ true = sym none ∙ every in absurd cc
+
+-- an answer that isn't Memory is no refusal for it
+pub never_wants : (r : Result (Unit {0}) Refusal) (o : Option Refusal) → o ≡ result_err r → r ≢ Err Memory → o ≢ Some Memory
+never_wants (Ok u) o is other = λ want. let no : None ≡ Some Memory = sym is ∙ want in cc
+never_wants (Err refusal) o is other = λ want.
+    let same : Some refusal ≡ Some Memory = sym is ∙ want in
+    let own : refusal ≡ Memory = cc in other (ap Err own)
+
+-- nor is one where the heap refused nothing
+not_memory : (before now : ℕ) (r : Result (Unit {0}) Refusal) → HasCauseOf Memory before now r → HasStood before now → r ≢ Err Memory
+not_memory before now (Ok u) cause stood = λ want. cc
+not_memory before now (Err refusal) cause stood = λ want.
+    let own : refusal ≡ Memory = cc in
+    let rose = cause.failed own in absurd (omega (arith, rose, stood))
+
+pub wants_none : (before now : ℕ) (r : Result (Unit {0}) Refusal) (o : Option Refusal) → o ≡ result_err r → HasCauseOf Memory before now r
+    → HasStood before now → o ≢ Some Memory
+wants_none before now r o is cause stood = never_wants r o is (not_memory before now r cause stood)

@@ -2,11 +2,12 @@
 use Rattle.lx_session.proofs.Imports.{◌≡◌, ◌<◌, Bool, true, false, cond, Option, Some, None, IfSome, Result, List, ◌++◌, length, ℕ, ◌∙◌}
 use Rattle.lx_session.proofs.Imports.{ap, sym, refl, subst, arith, nat_lt, nat_tests, fold-append, LINE_BYTES, SinkFault, Command, Line, Kept, Desk}
 use Rattle.lx_session.proofs.Imports.{after_command, tokens, Session, is_quit, DeskState, tried, after_meaning, MayFailAt, desk_answering, Tally}
-use Rattle.lx_session.proofs.Imports.{after_commands, reply_to, meaning_of, IsLine, ExtendsText, IsLawful, OneAnswer, LineAnswer, Beginning, HasDone}
-use Rattle.lx_session.proofs.Imports.{HasHeard, ToldBySink}
+use Rattle.lx_session.proofs.Imports.{after_commands, reply_to, meaning_of, IsLine, ExtendsText, IsLawful, OneAnswer, SparedAnswer, Beginning, HasDone}
+use Rattle.lx_session.proofs.Imports.{HasHeard, ToldBySink, spared}
 use Rattle.lx_spec.specs.declared.Line.TheVariants as lines
 use Rattle.lx_spec.specs.Script.{line_of, meaning}
 use Rattle.lx_session.proofs.RepliedLines.{finished}
+use Rattle.lx_session.proofs.Stood.{spares}
 
 -- a line that is too long has no meaning
 too_long : (line : List ℕ) → LINE_BYTES < length line → None ≡ line_of line
@@ -63,25 +64,32 @@ may_fail true true so_far d meaning (Some k) may = may
 may_fail false true so_far d meaning (Some k) may = let no : false ≡ true = so_far refl in absurd cc
 
 -- a line that was answered on the console was answered for the state
-pub answered_heard : {K T L : Type 0} (all_here all : Bool) → (all ≡ true → all_here ≡ true) → (heard : L → L → List Command → Type 0) (since : Beginning L) (first now : L)
+pub answered_heard : {K T L : Type 0} (Ample : Type 0) (all_here all ample : Bool) → (all ≡ true → all_here ≡ true)
+    → (ample ≡ true → Ample) → (heard : L → L → List Command → Type 0) (since : Beginning L) (first now : L)
     (told : ToldBySink K) (sink sink' : K) (result : Result T SinkFault) (s : Session DeskState) (text : List ℕ)
     (before console : Kept) (tally : Tally)
     → ((last : L) (done more : List Command) → heard last first done → heard first now more → heard last now (done ++ more))
-    → HasHeard heard since s.state first before → LineAnswer all_here (heard first now) told sink sink' result s (line_of text) console tally
-    → OneAnswer (desk_answering all) told sink sink' result s text (λ state. HasHeard heard since state now console) tally
-answered_heard all_here all so_far heard since first now told sink sink' result s text before console tally both h a = record {
-  next = a.next;
-  failed = a.failed;
-  goes_on = record { is = a.goes_on.is; allowed = may_fail all_here all so_far s.state.desk (line_of text) a.failed a.goes_on.allowed };
-  stands = record {
-    stands = a.stands;
-    desk = more_accepted since.desk s.state.desk a.next.state.desk s.state.accepted a.goes_on.commands a.next.state.accepted h.desk
-        a.goes_on.desk a.goes_on.accepted;
-    listened = subst (heard since.listener now) (sym a.goes_on.accepted)
-        (both since.listener s.state.accepted a.goes_on.commands h.listened a.goes_on.listened);
-  };
-  reply = a.reply;
-  text = a.text;
-  puts = a.puts;
-  counts = a.counts;
-}
+    → HasHeard heard since s.state first before
+    → SparedAnswer Ample all_here (heard first now) told sink sink' result s (line_of text) console tally
+    → OneAnswer (spared ample (desk_answering all)) told sink sink' result s text (λ state. HasHeard heard since state now console) tally
+answered_heard Ample all_here all ample so_far is_ample heard since first now told sink sink' result s text before console tally both h spared_a =
+    let a = spared_a.answer in record {
+      next = a.next;
+      failed = a.failed;
+      goes_on = record {
+        is = a.goes_on.is;
+        allowed = spares ample a.failed _ (λ is. spared_a.none (is_ample is))
+            (may_fail all_here all so_far s.state.desk (line_of text) a.failed a.goes_on.allowed);
+      };
+      stands = record {
+        stands = a.stands;
+        desk = more_accepted since.desk s.state.desk a.next.state.desk s.state.accepted a.goes_on.commands a.next.state.accepted h.desk
+            a.goes_on.desk a.goes_on.accepted;
+        listened = subst (heard since.listener now) (sym a.goes_on.accepted)
+            (both since.listener s.state.accepted a.goes_on.commands h.listened a.goes_on.listened);
+      };
+      reply = a.reply;
+      text = a.text;
+      puts = a.puts;
+      counts = a.counts;
+    }

@@ -1,5 +1,5 @@
 -- What the proofs of this crate import from its specs and from other crates. It declares nothing.
-pub use Rattle.std.proofs.Common.{[], ℕ, ◌++◌, ◌+◌, ◌-◌, ◌<◌, ◌==◌, ◌∙◌, ◌∷◌, ◌≡◌, ◌≤◌, ◌⊎◌, ap, append-nil}
+pub use Rattle.std.proofs.Common.{[], ℕ, ◌++◌, ◌+◌, ◌-◌, ◌<◌, ◌==◌, ◌∙◌, ◌∷◌, ◌≡◌, ◌≤◌, ◌⊎◌, ap, append-nil, ◌≢◌}
 pub use Rattle.std.proofs.Common.{append_assoc, arith, Bool, cond, drop, eqb, Err, false, IfOk, IfSome, if◌then◌else◌, inl, inr, is_none, is_some, IsErr}
 pub use Rattle.std.proofs.Common.{IsOk, IsOkAnd, IsTrue, length, length-append, List, map, nat_lt, None, not, Ok, OnErr, OnOk, Option, option_copied}
 pub use Rattle.std.proofs.Common.{option_map, refl, Result, rules, Some, subst, suc, sym, take, take-append-drop, take_all, true, zero}
@@ -18,7 +18,7 @@ pub use Rattle.lx_lex.specs.Unread.{current_line, unread}
 pub use Rattle.lx_lex.specs.declared.lines.Lines.{Lines}
 pub use Rattle.lx_session.specs.Attempts.{AcceptedStep, after_commands, Attempted, heard_of, ListenedAttempt}
 pub use Rattle.lx_session.specs.Known.{Known}
-pub use Rattle.lx_session.specs.LineAnswer.{LineAnswer}
+pub use Rattle.lx_session.specs.LineAnswer.{LineAnswer, SparedAnswer}
 pub use Rattle.lx_session.specs.LineOutcome.{AnsweredLine, DoneLine, FromSession, HalfAnsweredLine, LineOutcome, PassedLine, QuitLine, ReplyOutcome}
 pub use Rattle.lx_session.specs.LineOutcome.{ReplyPrefix, ScriptEnd, SinkStop, UnreadLine, Untouched}
 pub use Rattle.lx_session.specs.LineProgress.{CommandHasFailed, HasPassed, LineProgress, resumed}
@@ -26,6 +26,7 @@ pub use Rattle.lx_session.specs.LineReply.{counted, counts_after, counts_in, IsU
 pub use Rattle.lx_session.specs.LineState.{frame_of, LineState, meaning_of, next_of, unattempted}
 pub use Rattle.lx_session.specs.Listening.{Beginning, HasDone, HasHeard}
 pub use Rattle.lx_session.specs.OneAnswer.{ExtendsText, GoesOnBy, IsLawful, IsLine, OneAnswer}
+pub use Rattle.lx_session.specs.Spared.{HasStood, IsAmple, MayFailUnless, MayTake, spared}
 pub use Rattle.lx_session.specs.ScriptAnswer.{AnsweredPrefix, AnsweredTaken, AnsweredWhole, ScriptAnswered}
 pub use Rattle.lx_session.specs.SessionOutcome.{KeepsLimit}
 pub use Rattle.lx_session.specs.declared.fault.SessionFault.{SessionFault}

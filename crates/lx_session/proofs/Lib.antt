@@ -1,3 +1,4 @@
+pub mod Stood
 pub mod AttemptSteps
 pub mod ValidNext
 pub mod ShownDesk

@@ -4,6 +4,7 @@ pub mod Attempts
 pub mod LineProgress
 pub mod LineReply
 pub mod OneAnswer
+pub mod Spared
 pub mod ScriptAnswer
 pub mod LineAnswer
 pub mod Listening

@@ -1,5 +1,5 @@
 -- A line that was done and answered on a console, beside what listens.
-use Rattle.std.specs.Prelude.{◌≡◌, ℕ, Bool, Option, IfSome, Result, List, ◌++◌, OnOk}
+use Rattle.std.specs.Prelude.{◌≡◌, ℕ, Bool, Option, None, IfSome, Result, List, ◌++◌, OnOk}
 use Rattle.lx_io.specs.declared.sink.SinkFault.{SinkFault}
 use Rattle.lx_io.specs.Puts.{Puts}
 use Rattle.lx_io.specs.Told.{ToldBySink}
@@ -36,6 +36,13 @@ pub record LineAnswer {K T : Type 0} (all : Bool) (heard : List Command → Type
   pub text : next.text ≡ s.text ++ reply
   pub puts : Puts told sink sink' result reply
   pub counts : OnOk result (next.counts ≡ counts_in tally)
+
+-- The same, and where memory was ample none of its attempts failed.
+pub record SparedAnswer {K T : Type 0} (Ample : Type 0) (all : Bool) (heard : List Command → Type 0) (told : ToldBySink K)
+    (sink sink' : K) (result : Result T SinkFault) (s : Session DeskState) (meaning : Option Line) (console : Kept) (tally : Tally)
+    : Type 0 where
+  pub answer : LineAnswer all heard told sink sink' result s meaning console tally
+  pub none : Ample → answer.failed ≡ None
 
 -- what holds of a session for whose desk the console stood, and which had counted this many
 abbrev pub FromDesk : Kept → Tally → (Session DeskState → Type 0) → Type 0

@@ -4,6 +4,7 @@ use Rattle.std.specs.Option.{option_map_or}
 use Rattle.lx_spec.specs.declared.Command.{Command}
 use Rattle.lx_spec.specs.declared.Command.TheVariants as commands
 use Rattle.lx_spec.specs.declared.Refusal.{Refusal}
+use Rattle.lx_spec.specs.declared.Refusal.TheVariants.{Memory}
 use Rattle.lx_spec.specs.Desk.{Desk, step, is_edit}
 use Rattle.lx_spec.specs.Kept.{Kept}
 use Rattle.lx_spec.specs.DeskSession.{DeskState, Attempt, attempts_for, command_of}
@@ -26,7 +27,7 @@ pub record CommandHasFailed (d : Desk) (command : Option Command) : Type 0 where
 
 -- From a state on, the attempts of a line have come to this one, for which the console stands, and the commands that were accepted were
 -- heard of. Where one of those that are left will fail, `at` tells which one of all it is; where none will, the one that did, if one did.
--- Where all are admitted, none fails but at an edit that the desk accepts.
+-- Where all are admitted, none fails but at an edit that the desk accepts. One that fails is refused with Memory.
 pub record LineProgress (all : Bool) (heard : List Command → Type 0) (s : DeskState) (old turn : LineState) (console : Kept) : Type 0 where
   pub now : DeskState
   pub at : Option ℕ → Option ℕ
@@ -42,6 +43,7 @@ pub record LineProgress (all : Bool) (heard : List Command → Type 0) (s : Desk
   pub fewer : turn.left ≤ old.left
   pub fresh : turn.left ≡ old.left → now.desk ≡ s.desk
   pub at_edit : is_some (at None) ≡ true → all ≡ true → CommandHasFailed now.desk (command_of old.meaning)
+  pub by_memory : is_some (at None) ≡ true → turn.refusal ≡ Some Memory
   pub still : old.left ≤ 1 → is_some turn.refusal ≡ true → now.desk ≡ s.desk
 
 -- Some attempts at ticks were made at once and accepted, if any; each may be taken as heard of.

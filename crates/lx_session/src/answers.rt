@@ -1,13 +1,15 @@
 //! What answers the lines of a script.
 
-ghost use Rattle.std.specs.Prelude.{◌≡◌, List, ℕ, IfOk, not, option_copied};
+ghost use Rattle.std.specs.Prelude.{◌≡◌, ◌≤◌, List, ℕ, Bool, true, IfOk, not, option_copied};
 ghost use Rattle.lx_io.specs.Puts.{HasSinkCause};
 ghost use Rattle.lx_spec.specs.Session.{Session, Answering, ends_script};
 ghost use Rattle.lx_session.specs.LineReply.{TallyHasRoom, HasOneMore, counts_in};
 ghost use Rattle.lx_session.specs.OneAnswer.{IsLine, IsLawful, OneAnswer};
+ghost use Rattle.lx_session.specs.Spared.{HasStood, spared};
 
 use crate::tally::Tally;
-use lx_io::{Sink, SinkFault};
+use lx_io::{Heap, Sink, SinkFault, SystemHeap};
+use std::alloc::Global;
 
 /// What answers the lines of a script, one after another: a desk of any kind.
 ///
@@ -20,11 +22,33 @@ pub trait Answers {
     /// It stands for the state.
     ghost stands: { by.State → Self → Type 0 };
 
+    /// Where its edits take their memory, where they aren't given a heap.
+    fn allocator(&self) -> Global;
+
     /// Does what a line asks for, then appends its replies and counts them. None stands for a line that is too
     /// long, which is bad. It answers false exactly for `quit`.
     ///
     /// A fault comes only where the sink answered it in this call; then a prefix of the replies was appended, and
-    /// the line was done.
+    /// the line was done. Where the heap refused nothing in this call, no attempt failed.
+    fn answer_in<H: Heap, K: Sink>(
+        &mut self,
+        heap: &mut H,
+        line: Option<&[u8]>,
+        sink: &mut K,
+        tally: &mut Tally,
+    ) -> Result<bool, SinkFault>
+        requires room { TallyHasRoom tally.old }
+        ensures answered { (ample : Bool) → (ample ≡ true → HasStood (H.refusals heap.old) (H.refusals heap.new)) → (s : Session by.State)
+            (text : List ℕ) → stands s.state self.old → s.counts ≡ counts_in tally.old → IsLine (option_copied line.entry) text
+            → OneAnswer (spared ample by) K.Sink sink.old sink.new result s text (λ state. stands state self.new)
+            tally.new }
+        ensures later { H.refusals heap.old ≤ H.refusals heap.new }
+        ensures quit { IfOk result (λ more. (text : List ℕ) → IsLine (option_copied line.entry) text → more ≡ not (ends_script text)) }
+        ensures cause { HasSinkCause K.Sink sink.old sink.new result }
+        ensures more { HasOneMore tally.old tally.new }
+        ensures lawful { IsLawful by };
+
+    /// The same, by a heap of its own allocator.
     fn answer<K: Sink>(
         &mut self,
         line: Option<&[u8]>,
@@ -39,5 +63,9 @@ pub trait Answers {
         ensures quit { IfOk result (λ more. (text : List ℕ) → IsLine (option_copied line.entry) text → more ≡ not (ends_script text)) }
         ensures cause { HasSinkCause K.Sink sink.old sink.new result }
         ensures more { HasOneMore tally.old tally.new }
-        ensures lawful { IsLawful by };
+        ensures lawful { IsLawful by }
+    {
+        let mut heap = SystemHeap::new(self.allocator());
+        self.answer_in(&mut heap, line, sink, tally)
+    }
 }

@@ -1,17 +1,18 @@
 //! What answers the lines of a script beside something that is lent to it.
 
-ghost use Rattle.std.specs.Prelude.{◌≡◌, List, ℕ, Bool, true, IfOk, not, option_copied};
+ghost use Rattle.std.specs.Prelude.{◌≡◌, ◌≤◌, List, ℕ, Bool, true, IfOk, not, option_copied};
 ghost use Rattle.lx_io.specs.Puts.{HasSinkCause};
 ghost use Rattle.lx_spec.specs.Session.{Session, Answering, ends_script};
 ghost use Rattle.lx_session.specs.LineReply.{TallyHasRoom, HasOneMore, counts_in};
 ghost use Rattle.lx_session.specs.OneAnswer.{IsLine, IsLawful, OneAnswer};
+ghost use Rattle.lx_session.specs.Spared.{MayTake, spared};
 
 use crate::answers::Answers;
-use crate::line::answer;
+use crate::line::answer_in;
 use crate::listener::Listener;
 use crate::tally::Tally;
 use lx_console::Console;
-use lx_io::{Sink, SinkFault};
+use lx_io::{Heap, Sink, SinkFault};
 
 /// What answers the lines of a script beside something that is lent to it, `D`: a listener beside its console, or a desk
 /// that needs nothing (`Answers`) beside nothing.
@@ -32,9 +33,10 @@ pub(crate) trait AnswersBeside<D> {
     ghost stands: { Since → (all : Bool) → (by all).State → Self → D → Type 0 };
 
     /// As `Answers::answer`.
-    fn answer_beside<K: Sink>(
+    fn answer_beside<H: Heap, K: Sink>(
         &mut self,
         lent: &mut D,
+        heap: &mut H,
         line: Option<&[u8]>,
         sink: &mut K,
         tally: &mut Tally,
@@ -42,13 +44,14 @@ pub(crate) trait AnswersBeside<D> {
         requires room { TallyHasRoom tally.old }
         requires keeps { keeps self.old lent.old }
         ensures keeps { keeps self.new lent.new }
-        ensures answered { (all : Bool) → (all ≡ true → admitted_all self.new ≡ true) → (since : Since) (s : Session (by all).State)
-            (text : List ℕ) → stands since all s.state self.old lent.old
+        ensures answered { (all ample : Bool) → MayTake all ample (admitted_all self.new) (H.refusals heap.old) (H.refusals heap.new)
+            → (since : Since) (s : Session (by all).State) (text : List ℕ) → stands since all s.state self.old lent.old
             → s.counts ≡ counts_in tally.old → IsLine (option_copied line.entry) text
-            → OneAnswer (by all) K.Sink sink.old sink.new result s text
+            → OneAnswer (spared ample (by all)) K.Sink sink.old sink.new result s text
             (λ state. stands since all state self.new lent.new)
             tally.new }
         ensures all { admitted_all self.new ≡ true → admitted_all self.old ≡ true }
+        ensures later { H.refusals heap.old ≤ H.refusals heap.new }
         ensures quit { IfOk result (λ more. (text : List ℕ) → IsLine (option_copied line.entry) text → more ≡ not (ends_script text)) }
         ensures cause { HasSinkCause K.Sink sink.old sink.new result }
         ensures more { HasOneMore tally.old tally.new }
@@ -66,14 +69,15 @@ impl<A: Answers> AnswersBeside<()> for A {
 
     ghost stands = { λ _ _ state answerer _. A.stands state answerer };
 
-    fn answer_beside<K: Sink>(
+    fn answer_beside<H: Heap, K: Sink>(
         &mut self,
         _lent: &mut (),
+        heap: &mut H,
         line: Option<&[u8]>,
         sink: &mut K,
         tally: &mut Tally,
     ) -> Result<bool, SinkFault> {
-        self.answer(line, sink, tally)
+        self.answer_in(heap, line, sink, tally)
     }
 }
 
@@ -91,13 +95,14 @@ impl<L: Listener> AnswersBeside<Console> for L {
 
     ghost stands = { λ since _ state listener console. HasHeard L.heard since state listener console };
 
-    fn answer_beside<K: Sink>(
+    fn answer_beside<H: Heap, K: Sink>(
         &mut self,
         lent: &mut Console,
+        heap: &mut H,
         line: Option<&[u8]>,
         sink: &mut K,
         tally: &mut Tally,
     ) -> Result<bool, SinkFault> {
-        answer(self, lent, line, sink, tally)
+        answer_in(self, heap, lent, line, sink, tally)
     }
 }

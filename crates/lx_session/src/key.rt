@@ -1,11 +1,11 @@
 //! A line that presses a key or moves a fader, which is all that it does.
 
-ghost use Rattle.std.specs.Prelude.{◌≡◌, IfOk, IsTrue, Some, is_none, is_some, true};
+ghost use Rattle.std.specs.Prelude.{◌≡◌, ◌≢◌, IfOk, IsTrue, Some, is_none, is_some, true};
 ghost use Rattle.lx_io.specs.Puts.{HasSinkCause};
 ghost use Rattle.lx_spec.specs.Desk.{Desk};
 ghost use Rattle.lx_console.specs.ConsoleMeaning.{StandsFor};
 ghost use Rattle.lx_session.specs.Attempts.{Attempted, ListenedAttempt, heard_of};
-ghost use Rattle.lx_session.specs.LineAnswer.{LineAnswer, FromDesk};
+ghost use Rattle.lx_session.specs.LineAnswer.{SparedAnswer, FromDesk};
 ghost use Rattle.lx_session.specs.LineReply.{TallyHasRoom, HasOneMore};
 
 use crate::finish::{give, reply_of};
@@ -15,7 +15,8 @@ use lx_console::Console;
 use lx_io::{Sink, SinkFault};
 use lx_spec::{Command, Key, Line, Refusal};
 
-/// As `answer`, of a line that presses a key or moves a fader: no turn is made for it, since it has one command, by value.
+/// As `answer_in`, of a line that presses a key or moves a fader: no turn is made for it, since it has one command, by value. It takes
+/// no memory.
 pub(crate) fn answer_key<L: Listener, K: Sink>(
     listener: &mut L,
     console: &mut Console,
@@ -27,7 +28,7 @@ pub(crate) fn answer_key<L: Listener, K: Sink>(
     requires keeps { L.keeps listener.old console.old }
     ensures keeps { L.keeps listener.new console.new }
     ensures answered { FromDesk console.old tally.old
-        (λ s. LineAnswer (L.admitted_all listener.new) (L.heard listener.old listener.new) K.Sink sink.old sink.new result s
+        (λ s. SparedAnswer (L.admitted_all listener.new ≡ true) (L.admitted_all listener.new) (L.heard listener.old listener.new) K.Sink sink.old sink.new result s
         (Some (Line.Command (Command.Key key))) console.new tally.new) }
     ensures all { L.admitted_all listener.new ≡ true → L.admitted_all listener.old ≡ true }
     ensures goes_on { IfOk result (λ more. more ≡ true) }
@@ -46,6 +47,7 @@ fn attempt_key<L: Listener>(listener: &mut L, key: &Key, console: &mut Console) 
     ensures attempted { (d : Desk) → StandsFor d console.old
         → ListenedAttempt (L.admitted_all listener.new) d (Command.Key key.now) result console.new }
     ensures heard { L.heard listener.old listener.new (heard_of (Command.Key key.now) result) }
+    ensures memory { L.admitted_all listener.new ≡ true → result ≢ Some Refusal.Memory }
     ensures all { L.admitted_all listener.new ≡ true → L.admitted_all listener.old ≡ true }
 {
     let command = Command::Key(*key);
@@ -62,6 +64,7 @@ fn try_key(key: &Key, console: &mut Console, admitted: bool) -> Option<Refusal>
     ensures attempted { (d : Desk) → StandsFor d console.old → Attempted admitted d (Command.Key key.now) result console.new }
     ensures admitted { is_none result ≡ true → admitted ≡ true }
     ensures unchanged { IsTrue (is_some result) → console.new ≡ console.old }
+    ensures memory { admitted ≡ true → result ≢ Some Refusal.Memory }
 {
     if !admitted {
         return Some(Refusal::Memory);

@@ -16,9 +16,11 @@ mod turn;
 
 pub use answers::Answers;
 pub use fault::SessionFault;
-pub use line::answer;
+pub use line::{answer, answer_in};
 pub use listener::{Listener, NoListener};
 pub use quit::is_quit;
-pub use script::{answer_lines, session, session_with};
+pub use script::{
+    answer_lines, answer_lines_in, session, session_in, session_with, session_with_in,
+};
 pub use tally::Tally;
 pub use turn::Turn;

@@ -1,6 +1,6 @@
 //! One line, from its bytes to its reply.
 
-ghost use Rattle.std.specs.Prelude.{◌≡◌, ◌++◌, IfOk, IfSome, None, Some, not, true, option_copied};
+ghost use Rattle.std.specs.Prelude.{◌≡◌, ◌≢◌, ◌≤◌, ◌++◌, IfOk, IfSome, None, Some, not, true, option_copied};
 ghost use Rattle.lx_io.specs.Puts.{HasSinkCause};
 ghost use Rattle.lx_spec.specs.Desk.{Desk};
 ghost use Rattle.lx_spec.specs.Session.{is_quit};
@@ -11,7 +11,8 @@ ghost use Rattle.lx_session.specs.Attempts.{ListenedAttempt, heard_of};
 ghost use Rattle.lx_session.specs.LineState.{meaning_of, next_of};
 ghost use Rattle.lx_session.specs.LineProgress.{HasPassed, LineProgress};
 ghost use Rattle.lx_session.specs.LineReply.{TallyHasRoom, HasOneMore};
-ghost use Rattle.lx_session.specs.LineAnswer.{LineAnswer, FromDesk};
+ghost use Rattle.lx_session.specs.LineAnswer.{LineAnswer, SparedAnswer, FromDesk};
+ghost use Rattle.lx_session.specs.Spared.{IsAmple};
 
 use crate::finish::{give, put_universe};
 use crate::key::answer_key;
@@ -19,7 +20,7 @@ use crate::listener::Listener;
 use crate::tally::Tally;
 use crate::turn::{Turn, read_turn, try_command};
 use lx_console::Console;
-use lx_io::{Sink, SinkFault};
+use lx_io::{Heap, Sink, SinkFault, SystemHeap};
 use lx_script::{Reply, lone_key};
 use lx_spec::{Command, Key, Line, PlayKey, Refusal};
 
@@ -46,10 +47,36 @@ pub fn answer<L: Listener, K: Sink>(
     ensures cause { HasSinkCause K.Sink sink.old sink.new result }
     ensures more { HasOneMore tally.old tally.new }
 {
+    let mut heap = SystemHeap::new(console.allocator());
+    answer_in(listener, &mut heap, console, line, sink, tally)
+}
+
+/// The same, by a heap. A command that the listener admits is refused with `Memory` only where the heap refused memory in this call.
+pub fn answer_in<L: Listener, H: Heap, K: Sink>(
+    listener: &mut L,
+    heap: &mut H,
+    console: &mut Console,
+    line: Option<&[u8]>,
+    sink: &mut K,
+    tally: &mut Tally,
+) -> Result<bool, SinkFault>
+    requires room { TallyHasRoom tally.old }
+    requires keeps { L.keeps listener.old console.old }
+    ensures keeps { L.keeps listener.new console.new }
+    ensures answered { FromDesk console.old tally.old
+        (λ s. SparedAnswer (IsAmple (L.admitted_all listener.new) (H.refusals heap.old) (H.refusals heap.new)) (L.admitted_all listener.new)
+        (L.heard listener.old listener.new) K.Sink sink.old sink.new result s
+        (meaning_of (option_copied line.entry)) console.new tally.new) }
+    ensures all { L.admitted_all listener.new ≡ true → L.admitted_all listener.old ≡ true }
+    ensures quit { IfOk result (λ more. more ≡ not (is_quit (meaning_of (option_copied line.entry)))) }
+    ensures cause { HasSinkCause K.Sink sink.old sink.new result }
+    ensures more { HasOneMore tally.old tally.new }
+    ensures later { H.refusals heap.old ≤ H.refusals heap.new }
+{
     if let Some(key) = read_lone_key(line) {
         return answer_key(listener, console, Key::Play(key), sink, tally);
     }
-    answer_any(listener, console, line, sink, tally)
+    answer_any(listener, heap, console, line, sink, tally)
 }
 
 /// The key that a line presses which is that key's word in small letters and nothing else. Of any other line it says nothing.
@@ -60,10 +87,11 @@ fn read_lone_key(line: Option<&[u8]>) -> Option<PlayKey>
     lone_key(line?)
 }
 
-/// As `answer`, of any line. It is a function of its own, so that a lone key doesn't pay for the room of what a line means.
+/// As `answer_in`, of any line. It is a function of its own, so that a lone key doesn't pay for the room of what a line means.
 #[inline(never)]
-fn answer_any<L: Listener, K: Sink>(
+fn answer_any<L: Listener, H: Heap, K: Sink>(
     listener: &mut L,
+    heap: &mut H,
     console: &mut Console,
     line: Option<&[u8]>,
     sink: &mut K,
@@ -73,25 +101,28 @@ fn answer_any<L: Listener, K: Sink>(
     requires keeps { L.keeps listener.old console.old }
     ensures keeps { L.keeps listener.new console.new }
     ensures answered { FromDesk console.old tally.old
-        (λ s. LineAnswer (L.admitted_all listener.new) (L.heard listener.old listener.new) K.Sink sink.old sink.new result s
+        (λ s. SparedAnswer (IsAmple (L.admitted_all listener.new) (H.refusals heap.old) (H.refusals heap.new)) (L.admitted_all listener.new)
+        (L.heard listener.old listener.new) K.Sink sink.old sink.new result s
         (meaning_of (option_copied line.entry)) console.new tally.new) }
     ensures all { L.admitted_all listener.new ≡ true → L.admitted_all listener.old ≡ true }
     ensures quit { IfOk result (λ more. more ≡ not (is_quit (meaning_of (option_copied line.entry)))) }
     ensures cause { HasSinkCause K.Sink sink.old sink.new result }
     ensures more { HasOneMore tally.old tally.new }
+    ensures later { H.refusals heap.old ≤ H.refusals heap.new }
 {
     match read_turn(line) {
         None => give(Reply::Bad, sink, tally),
         Some(Line::Command(Command::Key(key))) => answer_key(listener, console, key, sink, tally),
         Some(Line::Frame(universe)) => put_universe(universe, console, sink),
-        Some(line) => answer_read(listener, console, line, sink, tally),
+        Some(line) => answer_read(listener, heap, console, line, sink, tally),
     }
 }
 
-/// As `answer`, of a line that means this. It is a function of its own, so that keys and bad lines don't pay for the room of its turn.
+/// As `answer_in`, of a line that means this. It is a function of its own, so that keys and bad lines don't pay for the room of its turn.
 #[inline(never)]
-fn answer_read<L: Listener, K: Sink>(
+fn answer_read<L: Listener, H: Heap, K: Sink>(
     listener: &mut L,
+    heap: &mut H,
     console: &mut Console,
     line: Line,
     sink: &mut K,
@@ -102,20 +133,27 @@ fn answer_read<L: Listener, K: Sink>(
     requires keeps { L.keeps listener.old console.old }
     ensures keeps { L.keeps listener.new console.new }
     ensures answered { FromDesk console.old tally.old
-        (λ s. LineAnswer (L.admitted_all listener.new) (L.heard listener.old listener.new) K.Sink sink.old sink.new result s
+        (λ s. SparedAnswer (IsAmple (L.admitted_all listener.new) (H.refusals heap.old) (H.refusals heap.new)) (L.admitted_all listener.new)
+        (L.heard listener.old listener.new) K.Sink sink.old sink.new result s
         (Some line.entry) console.new tally.new) }
     ensures all { L.admitted_all listener.new ≡ true → L.admitted_all listener.old ≡ true }
     ensures quit { IfOk result (λ more. more ≡ not (is_quit (Some line.entry))) }
     ensures cause { HasSinkCause K.Sink sink.old sink.new result }
     ensures more { HasOneMore tally.old tally.new }
+    ensures later { H.refusals heap.old ≤ H.refusals heap.new }
 {
     let mut turn = Turn::of(Some(line));
-    attempt_all(listener, &mut turn, console);
+    attempt_all(listener, heap, &mut turn, console);
     turn.finish(console, sink, tally)
 }
 
 /// Attempts the commands of a line.
-fn attempt_all<L: Listener>(listener: &mut L, turn: &mut Turn, console: &mut Console)
+fn attempt_all<L: Listener, H: Heap>(
+    listener: &mut L,
+    heap: &mut H,
+    turn: &mut Turn,
+    console: &mut Console,
+)
     requires start { turn.old.refusal ≡ None }
     requires valid { IfSome turn.old.meaning ValidLine }
     requires keeps { L.keeps listener.old console.old }
@@ -125,10 +163,12 @@ fn attempt_all<L: Listener>(listener: &mut L, turn: &mut Turn, console: &mut Con
     ensures over { next_of turn.new ≡ None }
     ensures tried { (s : DeskState) → StandsFor s.desk console.old
         → LineProgress (L.admitted_all listener.new) (L.heard listener.old listener.new) s turn.old turn.new console.new }
+    ensures memory { IsAmple (L.admitted_all listener.new) (H.refusals heap.old) (H.refusals heap.new) → turn.new.refusal ≢ Some Refusal.Memory }
+    ensures later { H.refusals heap.old ≤ H.refusals heap.new }
 {
     pass_ticks(listener, turn, console);
     'commands: while let Some(command) = turn.next() {
-        let refusal = attempt_one(listener, command, console);
+        let refusal = attempt_one(listener, heap, command, console);
         turn.attempted(refusal);
         pass_ticks(listener, turn, console);
     }
@@ -149,8 +189,9 @@ fn pass_ticks<L: Listener>(listener: &L, turn: &mut Turn, console: &mut Console)
 /// Attempts a command that the listener is asked to admit, and hears of where it is accepted. It says the refusal, if it is
 /// refused. It is a function of its own, with the room of an edit's plan.
 #[inline(never)]
-fn attempt_one<L: Listener>(
+fn attempt_one<L: Listener, H: Heap>(
     listener: &mut L,
+    heap: &mut H,
     command: &Command,
     console: &mut Console,
 ) -> Option<Refusal>
@@ -159,10 +200,12 @@ fn attempt_one<L: Listener>(
     ensures keeps { L.keeps listener.new console.new }
     ensures attempted { (d : Desk) → StandsFor d console.old → ListenedAttempt (L.admitted_all listener.new) d command.now result console.new }
     ensures heard { L.heard listener.old listener.new (heard_of command.now result) }
+    ensures memory { IsAmple (L.admitted_all listener.new) (H.refusals heap.old) (H.refusals heap.new) → result ≢ Some Refusal.Memory }
+    ensures later { H.refusals heap.old ≤ H.refusals heap.new }
     ensures all { L.admitted_all listener.new ≡ true → L.admitted_all listener.old ≡ true }
 {
     let admitted = listener.admit(command);
-    let refusal = try_command(command, console, admitted);
+    let refusal = try_command(heap, command, console, admitted);
     if refusal.is_none() {
         listener.hear(command, console);
     }

@@ -8,6 +8,7 @@ ghost use Rattle.lx_spec.specs.DeskSession.{begun, desk_answering};
 ghost use Rattle.lx_console.specs.ConsoleMeaning.{StandsFor};
 ghost use Rattle.lx_session.specs.ScriptAnswer.{ScriptAnswered};
 ghost use Rattle.lx_session.specs.Listening.{HasDone};
+ghost use Rattle.lx_session.specs.Spared.{HasStood, IsAmple, MayTake, spared};
 ghost use Rattle.lx_session.specs.SessionOutcome.{HasSessionCause, KeepsLimit};
 
 use crate::answers::Answers;
@@ -17,7 +18,7 @@ use crate::listener::{Listener, NoListener};
 use crate::take::take_line;
 use crate::tally::Tally;
 use lx_console::Console;
-use lx_io::{Sink, Source};
+use lx_io::{Heap, Sink, Source, SystemHeap};
 use lx_lex::Lines;
 
 /// Answers the script lines that are left, up to `quit` or the end, on a console. Each line is done and
@@ -67,7 +68,58 @@ pub fn session_with<L: Listener, S: Source, K: Sink>(
     ensures cause { HasSessionCause S.Source K.Sink lines.old lines.new sink.old sink.new result }
     ensures handed_on { OnOk result (K.back sink.new ≡ []) }
 {
-    answer_each(listener, console, lines, sink)
+    let mut heap = SystemHeap::new(console.allocator());
+    session_with_in(listener, &mut heap, console, lines, sink)
+}
+
+/// As `session`, by a heap: where it refused nothing in this call, no command failed for want of memory.
+pub fn session_in<H: Heap, S: Source, K: Sink>(
+    heap: &mut H,
+    console: &mut Console,
+    lines: &mut Lines<S>,
+    sink: &mut K,
+) -> Result<Tally, SessionFault>
+    requires going { CanAdvance lines.old }
+    requires within { bytes_taken lines.old ≤ INPUT_BYTES }
+    ensures same_source { SameSource lines.old lines.new }
+    ensures outcome { (ample : Bool) → (ample ≡ true → HasStood (H.refusals heap.old) (H.refusals heap.new)) → (d : Desk) → StandsFor d console.old
+        → IfSome (unread S.Source lines.old)
+        (λ bytes. ScriptAnswered (spared ample (desk_answering true)) (HasDone (λ commands. Unit {0}) d console.new) (begun d)
+        (bytes_taken lines.old) bytes (unread S.Source lines.new) (source_left S.Source lines.new) (K.holds sink.old) (K.holds sink.new) result) }
+    ensures limit { IfSome (unread S.Source lines.old) (λ bytes. KeepsLimit (bytes_taken lines.old) bytes result) }
+    ensures cause { HasSessionCause S.Source K.Sink lines.old lines.new sink.old sink.new result }
+    ensures handed_on { OnOk result (K.back sink.new ≡ []) }
+    ensures later { H.refusals heap.old ≤ H.refusals heap.new }
+{
+    session_with_in(&mut NoListener, heap, console, lines, sink)
+}
+
+/// As `session_with`, by a heap: where it refused nothing in this call and the listener admitted every command, none failed for want of
+/// memory.
+pub fn session_with_in<L: Listener, H: Heap, S: Source, K: Sink>(
+    listener: &mut L,
+    heap: &mut H,
+    console: &mut Console,
+    lines: &mut Lines<S>,
+    sink: &mut K,
+) -> Result<Tally, SessionFault>
+    requires going { CanAdvance lines.old }
+    requires within { bytes_taken lines.old ≤ INPUT_BYTES }
+    requires keeps { L.keeps listener.old console.old }
+    ensures same_source { SameSource lines.old lines.new }
+    ensures keeps { L.keeps listener.new console.new }
+    ensures outcome { (ample : Bool) → (ample ≡ true → IsAmple (L.admitted_all listener.new) (H.refusals heap.old) (H.refusals heap.new))
+        → (d : Desk) → StandsFor d console.old
+        → IfSome (unread S.Source lines.old)
+        (λ bytes. ScriptAnswered (spared ample (desk_answering (L.admitted_all listener.new)))
+        (HasDone (L.heard listener.old listener.new) d console.new) (begun d) (bytes_taken lines.old) bytes
+        (unread S.Source lines.new) (source_left S.Source lines.new) (K.holds sink.old) (K.holds sink.new) result) }
+    ensures limit { IfSome (unread S.Source lines.old) (λ bytes. KeepsLimit (bytes_taken lines.old) bytes result) }
+    ensures cause { HasSessionCause S.Source K.Sink lines.old lines.new sink.old sink.new result }
+    ensures handed_on { OnOk result (K.back sink.new ≡ []) }
+    ensures later { H.refusals heap.old ≤ H.refusals heap.new }
+{
+    answer_each(listener, console, heap, lines, sink)
 }
 
 /// Answers the script lines that are left, up to `quit` or the end. Each line is done and its replies appended
@@ -93,13 +145,38 @@ pub fn answer_lines<A: Answers, S: Source, K: Sink>(
     ensures cause { HasSessionCause S.Source K.Sink lines.old lines.new sink.old sink.new result }
     ensures handed_on { OnOk result (K.back sink.new ≡ []) }
 {
-    answer_each(answerer, &mut (), lines, sink)
+    let mut heap = SystemHeap::new(answerer.allocator());
+    answer_lines_in(answerer, &mut heap, lines, sink)
 }
 
-/// As `answer_lines`, beside what is lent.
-fn answer_each<D, A: AnswersBeside<D>, S: Source, K: Sink>(
+/// The same, by a heap: where it refused nothing in this call, no attempt failed.
+pub fn answer_lines_in<A: Answers, H: Heap, S: Source, K: Sink>(
+    answerer: &mut A,
+    heap: &mut H,
+    lines: &mut Lines<S>,
+    sink: &mut K,
+) -> Result<Tally, SessionFault>
+    requires going { CanAdvance lines.old }
+    requires within { bytes_taken lines.old ≤ INPUT_BYTES }
+    ensures same_source { SameSource lines.old lines.new }
+    ensures outcome { (ample : Bool) → (ample ≡ true → HasStood (H.refusals heap.old) (H.refusals heap.new))
+        → (state : A.by.State) → A.stands state answerer.old
+        → IfSome (unread S.Source lines.old)
+        (λ bytes. ScriptAnswered (spared ample A.by) (λ s. A.stands s answerer.new) state (bytes_taken lines.old) bytes
+        (unread S.Source lines.new) (source_left S.Source lines.new) (K.holds sink.old) (K.holds sink.new) result) }
+    ensures limit { IfSome (unread S.Source lines.old) (λ bytes. KeepsLimit (bytes_taken lines.old) bytes result) }
+    ensures cause { HasSessionCause S.Source K.Sink lines.old lines.new sink.old sink.new result }
+    ensures handed_on { OnOk result (K.back sink.new ≡ []) }
+    ensures later { H.refusals heap.old ≤ H.refusals heap.new }
+{
+    answer_each(answerer, &mut (), heap, lines, sink)
+}
+
+/// As `answer_lines_in`, beside what is lent.
+fn answer_each<D, A: AnswersBeside<D>, H: Heap, S: Source, K: Sink>(
     answerer: &mut A,
     lent: &mut D,
+    heap: &mut H,
     lines: &mut Lines<S>,
     sink: &mut K,
 ) -> Result<Tally, SessionFault>
@@ -108,16 +185,17 @@ fn answer_each<D, A: AnswersBeside<D>, S: Source, K: Sink>(
     requires keeps { A.keeps answerer.old lent.old }
     ensures same_source { SameSource lines.old lines.new }
     ensures keeps { A.keeps answerer.new lent.new }
-    ensures outcome { (all : Bool) → (all ≡ true → A.admitted_all answerer.new ≡ true) → (since : A.Since) (state : (A.by all).State)
-        → A.stands since all state answerer.old lent.old
+    ensures outcome { (all ample : Bool) → MayTake all ample (A.admitted_all answerer.new) (H.refusals heap.old) (H.refusals heap.new)
+        → (since : A.Since) (state : (A.by all).State) → A.stands since all state answerer.old lent.old
         → IfSome (unread S.Source lines.old)
-        (λ bytes. ScriptAnswered (A.by all) (λ s. A.stands since all s answerer.new lent.new) state (bytes_taken lines.old) bytes
+        (λ bytes. ScriptAnswered (spared ample (A.by all)) (λ s. A.stands since all s answerer.new lent.new) state (bytes_taken lines.old) bytes
         (unread S.Source lines.new) (source_left S.Source lines.new) (K.holds sink.old) (K.holds sink.new) result) }
     ensures limit { IfSome (unread S.Source lines.old) (λ bytes. KeepsLimit (bytes_taken lines.old) bytes result) }
     ensures cause { HasSessionCause S.Source K.Sink lines.old lines.new sink.old sink.new result }
     ensures handed_on { OnOk result (K.back sink.new ≡ []) }
+    ensures later { H.refusals heap.old ≤ H.refusals heap.new }
 {
     let mut tally = Tally::new();
-    'script: while take_line(answerer, lent, lines, sink, &mut tally)? {}
+    'script: while take_line(answerer, lent, heap, lines, sink, &mut tally)? {}
     Ok(tally)
 }

@@ -1,26 +1,28 @@
 //! One line of a session: it is taken from the source and answered.
 
-ghost use Rattle.std.specs.Prelude.{◌≡◌, ◌⊎◌, List, ℕ, Bool, [], true, false, Some, None, IfOk, OnOk, OnErr, not, option_copied};
+ghost use Rattle.std.specs.Prelude.{◌≡◌, ◌⊎◌, ◌≤◌, List, ℕ, Bool, [], true, false, Some, None, IfOk, OnOk, OnErr, not, option_copied};
 ghost use Rattle.std.specs.Io.KnownBytes.{Keeps};
 ghost use Rattle.lx_io.specs.Puts.{HasSinkCause};
 ghost use Rattle.lx_lex.specs.Unread.{CanAdvance, SameSource, held, has_feed, lines_handed};
 ghost use Rattle.lx_session.specs.LineReply.{TallyHasRoom, HasOneMore, IsUpTo};
 ghost use Rattle.lx_session.specs.LineOutcome.{LineOutcome, ReplyOutcome};
 ghost use Rattle.lx_session.specs.OneAnswer.{IsLine};
+ghost use Rattle.lx_session.specs.Spared.{MayTake, spared};
 ghost use Rattle.lx_session.specs.SessionOutcome.{HasSessionCause};
 ghost use Rattle.lx_session.specs.Waits.{WaitsFlushed};
 
 use crate::beside::AnswersBeside;
 use crate::fault::SessionFault;
 use crate::tally::Tally;
-use lx_io::{Sink, SinkFault, Source};
+use lx_io::{Heap, Sink, SinkFault, Source};
 use lx_lex::{Lines, Step};
 
 /// Takes the next line and answers it. Before a read that may wait, what was written is handed on. It answers
 /// false where the script has ended, and then all that was written is handed on.
-pub(crate) fn take_line<D, A: AnswersBeside<D>, S: Source, K: Sink>(
+pub(crate) fn take_line<D, A: AnswersBeside<D>, H: Heap, S: Source, K: Sink>(
     answerer: &mut A,
     lent: &mut D,
+    heap: &mut H,
     lines: &mut Lines<S>,
     sink: &mut K,
     tally: &mut Tally,
@@ -30,11 +32,12 @@ pub(crate) fn take_line<D, A: AnswersBeside<D>, S: Source, K: Sink>(
     requires keeps { A.keeps answerer.old lent.old }
     ensures same_source { SameSource lines.old lines.new }
     ensures keeps { A.keeps answerer.new lent.new }
-    ensures outcome { (all : Bool) → (all ≡ true → A.admitted_all answerer.new ≡ true)
-        → LineOutcome (A.by all) (λ since state. A.stands since all state answerer.old lent.old)
+    ensures outcome { (all ample : Bool) → MayTake all ample (A.admitted_all answerer.new) (H.refusals heap.old) (H.refusals heap.new)
+        → LineOutcome (spared ample (A.by all)) (λ since state. A.stands since all state answerer.old lent.old)
         (λ since state. A.stands since all state answerer.new lent.new) S.Source lines.old lines.new (K.holds sink.old) (K.holds sink.new) tally.old
         tally.new result }
     ensures all { A.admitted_all answerer.new ≡ true → A.admitted_all answerer.old ≡ true }
+    ensures later { H.refusals heap.old ≤ H.refusals heap.new }
     ensures cause { HasSessionCause S.Source K.Sink lines.old lines.new sink.old sink.new result }
     ensures waits { WaitsFlushed K.Sink lines.old lines.new sink.old }
     ensures handed_on { IfOk result (λ more. more ≡ false → K.back sink.new ≡ []) }
@@ -42,8 +45,8 @@ pub(crate) fn take_line<D, A: AnswersBeside<D>, S: Source, K: Sink>(
 {
     flush_before_wait(lines, sink)?;
     match lines.advance() {
-        Step::Line => Ok(give_reply(answerer, lent, Some(lines.line()), sink, tally)?),
-        Step::LongLine => Ok(give_reply(answerer, lent, None, sink, tally)?),
+        Step::Line => Ok(give_reply(answerer, lent, heap, Some(lines.line()), sink, tally)?),
+        Step::LongLine => Ok(give_reply(answerer, lent, heap, None, sink, tally)?),
         Step::End => {
             sink.flush()?;
             Ok(false)
@@ -68,9 +71,10 @@ fn flush_before_wait<S: Source, K: Sink>(lines: &Lines<S>, sink: &mut K) -> Resu
 
 /// Answers a line, and flushes the sink where it ends the script.
 #[inline(always)]
-fn give_reply<D, A: AnswersBeside<D>, K: Sink>(
+fn give_reply<D, A: AnswersBeside<D>, H: Heap, K: Sink>(
     answerer: &mut A,
     lent: &mut D,
+    heap: &mut H,
     line: Option<&[u8]>,
     sink: &mut K,
     tally: &mut Tally,
@@ -78,17 +82,18 @@ fn give_reply<D, A: AnswersBeside<D>, K: Sink>(
     requires room { TallyHasRoom tally.old }
     requires keeps { A.keeps answerer.old lent.old }
     ensures keeps { A.keeps answerer.new lent.new }
-    ensures outcome { (all : Bool) → (all ≡ true → A.admitted_all answerer.new ≡ true) → (text : List ℕ)
-        → IsLine (option_copied line.entry) text
-        → ReplyOutcome (A.by all) (λ since state. A.stands since all state answerer.old lent.old)
+    ensures outcome { (all ample : Bool) → MayTake all ample (A.admitted_all answerer.new) (H.refusals heap.old) (H.refusals heap.new)
+        → (text : List ℕ) → IsLine (option_copied line.entry) text
+        → ReplyOutcome (spared ample (A.by all)) (λ since state. A.stands since all state answerer.old lent.old)
         (λ since state. A.stands since all state answerer.new lent.new)
         (K.holds sink.old) (K.holds sink.new) tally.old tally.new text result }
     ensures all { A.admitted_all answerer.new ≡ true → A.admitted_all answerer.old ≡ true }
+    ensures later { H.refusals heap.old ≤ H.refusals heap.new }
     ensures cause { HasSinkCause K.Sink sink.old sink.new result }
     ensures handed_on { IfOk result (λ more. more ≡ false → K.back sink.new ≡ []) }
     ensures more { HasOneMore tally.old tally.new }
 {
-    if answerer.answer_beside(lent, line, sink, tally)? {
+    if answerer.answer_beside(lent, heap, line, sink, tally)? {
         return Ok(true);
     }
     sink.flush()?;

@@ -1,6 +1,6 @@
 //! One script line on its way: its commands are attempted one after another.
 
-ghost use Rattle.std.specs.Prelude.{◌≡◌, ◌-◌, ◌<◌, ◌≤◌, true, false, Some, is_some, is_none, option_copied, IsOkAnd, IsTrue, IfSome};
+ghost use Rattle.std.specs.Prelude.{◌≡◌, ◌≢◌, ◌-◌, ◌<◌, ◌≤◌, true, false, Some, is_some, is_none, option_copied, IsOkAnd, IsTrue, IfSome};
 ghost use Rattle.lx_base.specs.declared.TheConstants.{UNIVERSES};
 ghost use Rattle.lx_spec.specs.Desk.{Desk};
 ghost use Rattle.lx_spec.specs.Script.{line_of};
@@ -12,8 +12,10 @@ ghost use Rattle.lx_console.specs.ConsoleMeaning.{StandsFor};
 ghost use Rattle.lx_console.specs.Ticks.{after_ticks};
 ghost use Rattle.lx_session.specs.LineState.{unattempted, meaning_of, next_of, frame_of};
 ghost use Rattle.lx_session.specs.Attempts.{Attempted};
+ghost use Rattle.lx_session.specs.Spared.{IsAmple};
 
 use lx_console::Console;
+use lx_io::Heap;
 use lx_script::{read_line, read_second_line};
 use lx_spec::{Command, Line, Refusal};
 use std::marker::Model;
@@ -147,8 +149,9 @@ impl<'a> Turn<'a> {
     }
 }
 
-/// The refusal of a command, if it is refused.
-pub(crate) fn try_command(
+/// The refusal of a command, if it is refused. One that was admitted is refused with `Memory` only where the heap refused memory.
+pub(crate) fn try_command<H: Heap>(
+    heap: &mut H,
     command: &Command,
     console: &mut Console,
     admitted: bool,
@@ -157,9 +160,11 @@ pub(crate) fn try_command(
     ensures attempted { (d : Desk) → StandsFor d console.old → Attempted admitted d command.now result console.new }
     ensures admitted { is_none result ≡ true → admitted ≡ true }
     ensures unchanged { IsTrue (is_some result) → console.new ≡ console.old }
+    ensures memory { IsAmple admitted (H.refusals heap.old) (H.refusals heap.new) → result ≢ Some Refusal.Memory }
+    ensures later { H.refusals heap.old ≤ H.refusals heap.new }
 {
     if !admitted {
         return Some(Refusal::Memory);
     }
-    console.command(command).err()
+    console.command_in(heap, command).err()
 }

@@ -1,5 +1,5 @@
 -- What the proofs of this crate import from its specs and from other crates. It declares nothing.
-pub use Rattle.std.proofs.Common.{[], ℕ, ◌++◌, ◌+◌, ◌-◌, ◌<◌, ◌==◌, ◌||◌, ◌∙◌, ◌∷◌, ◌≡◌, ◌≤◌, ◌⊎◌, ap}
+pub use Rattle.std.proofs.Common.{[], ℕ, ◌++◌, ◌+◌, ◌-◌, ◌<◌, ◌==◌, ◌||◌, ◌∙◌, ◌∷◌, ◌≡◌, ◌≤◌, ◌≢◌, ◌⊎◌, ap}
 pub use Rattle.std.proofs.Common.{append-nil, arith, Bool, codes, drop, Err, false, find, IfOk, IfSome, if◌then◌else◌, inl, inr, is_some, IsOk, length}
 pub use Rattle.std.proofs.Common.{length-append, List, nat_lt, None, not, Ok, OnErr, OnOk, Option, option_copied, refl, Result, slice_get, Some, subst, suc}
 pub use Rattle.std.proofs.Common.{sym, take, take_at, true, true≢false, zero}

@@ -6,10 +6,13 @@ use Rattle.lx_undo.proofs.Imports.{is_quit, DeskState, Attempt, begun, after_att
 use Rattle.lx_undo.proofs.Imports.{plain, after_asking, after_plain, UndoMayFail, MayFailAsked, after_commands, LineProgress, reply_to, counts_after, counts_in}
 use Rattle.lx_undo.proofs.Imports.{LineState, next_of, unattempted, IsLine, OneAnswer, StandsFor, allowed_some, turn_answered, with_reply_is}
 use Rattle.lx_undo.proofs.Imports.{counted_so as counts_so, reached, HasReached, UndoKept, UndoStands}
+use Rattle.lx_undo.proofs.Imports.{◌≢◌, IfSome}
 use Rattle.lx_io.specs.declared.sink.SinkFault.{SinkFault}
 use Rattle.lx_io.specs.Puts.{Puts}
 use Rattle.lx_io.specs.Told.{ToldBySink}
 use Rattle.lx_session.specs.declared.tally.Tally.{Tally}
+use Rattle.lx_session.specs.Spared.{spared}
+use Rattle.lx_session.proofs.Stood.{spares}
 use Rattle.lx_undo.proofs.Lines.{goes_on}
 use Rattle.lx_undo.specs.declared.asked.Denial.{Denial}
 use Rattle.lx_undo.specs.HistoryLines.{HasAsked, denial_text, answer_text, counted_denial}
@@ -44,10 +47,10 @@ done_by s what u (Err text) is stands = absurd stands
 
 module _ {K T : Type 0} (told : ToldBySink K) (sink sink' : K) (result : Result T SinkFault)
     (s : Session UndoState) (line : List ℕ) (what : UndoLine) (u : UndoKept) (before after : Tally)
-    (is : undo_line_of line ≡ Some what) (counted_so : s.counts ≡ counts_in before) where
+    (is : undo_line_of line ≡ Some what) (counted_so : s.counts ≡ counts_in before) (ample : Bool) where
   done : HasAsked s.state what None u → counts_in after ≡ counted_denial None (counts_in before)
       → Puts told sink sink' result (answer_text None)
-      → OneAnswer undo_answering told sink sink' result s line (λ (state : UndoState). UndoStands state u) after
+      → OneAnswer (spared ample undo_answering) told sink sink' result s line (λ (state : UndoState). UndoStands state u) after
   done did counts puts =
       let n = done_by s.state what u (after_asking s.state what) refl did in
       record {
@@ -63,15 +66,16 @@ module _ {K T : Type 0} (told : ToldBySink K) (sink sink' : K) (result : Result 
 
   refused : (denial : Denial) (failed : Option ℕ)
       → (if is_some failed then Err (refused_text Memory) else after_asking s.state what) ≡ Err (denial_text denial)
-      → (is_some failed ≡ true → MayFailAsked s.state what) → UndoStands s.state u
+      → (ample ≡ true → failed ≡ None) → (is_some failed ≡ true → MayFailAsked s.state what) → UndoStands s.state u
       → counts_in after ≡ counted_denial (Some denial) (counts_in before) → Puts told sink sink' result (answer_text (Some denial))
-      → OneAnswer undo_answering told sink sink' result s line (λ (state : UndoState). UndoStands state u) after
-  refused denial failed comes may stands counts puts = record {
+      → OneAnswer (spared ample undo_answering) told sink sink' result s line (λ (state : UndoState). UndoStands state u) after
+  refused denial failed comes none may stands counts puts = record {
     next = attempted s (Err (denial_text denial));
     failed = failed;
     goes_on = record {
       is = asked_answer failed s line what is ∙ ap (attempted s) comes;
-      allowed = allowed_some failed (UndoMayFail s.state line (undo_line_of line)) (λ e. subst (UndoMayFail s.state line) (sym is) (may e));
+      allowed = spares ample failed (UndoMayFail s.state line (undo_line_of line)) none
+          (allowed_some failed (UndoMayFail s.state line (undo_line_of line)) (λ e. subst (UndoMayFail s.state line) (sym is) (may e)));
     };
     stands = stands;
     reply = denial_text denial;
@@ -80,31 +84,40 @@ module _ {K T : Type 0} (told : ToldBySink K) (sink sink' : K) (result : Result 
     counts = always_ok result _ (ap (counted_denial (Some denial)) counted_so ∙ sym counts);
   }
 
-  -- Of a line that asks something of the history.
-  pub answered_asked : (denial : Option Denial) → HasAsked s.state what denial u → counts_in after ≡ counted_denial denial (counts_in before)
-      → Puts told sink sink' result (answer_text denial)
-      → OneAnswer undo_answering told sink sink' result s line (λ (state : UndoState). UndoStands state u) after
-  answered_asked None did counts puts = done did counts puts
-  answered_asked (Some denial) did counts puts = elim did.1 [
-    | inl own ↦ refused denial None own (λ e. cc) did.0 counts puts
-    | inr want ↦ refused denial (Some 0) (ap Err (sym want.memory)) (λ e. want.may) did.0 counts puts
+  denied : (b : Bool) → ample ≡ b → (denial : Denial) → HasAsked s.state what (Some denial) u
+      → (ample ≡ true → after_asking s.state what ≡ Err (denial_text denial)) → counts_in after ≡ counted_denial (Some denial) (counts_in before)
+      → Puts told sink sink' result (answer_text (Some denial))
+      → OneAnswer (spared ample undo_answering) told sink sink' result s line (λ (state : UndoState). UndoStands state u) after
+  denied true is_ample denial did own counts puts = refused denial None (own is_ample) (λ e. refl) (λ e. cc) did.0 counts puts
+  denied false is_ample denial did own counts puts = elim did.1 [
+    | inl mine ↦ refused denial None mine (λ e. refl) (λ e. cc) did.0 counts puts
+    | inr want ↦ refused denial (Some 0) (ap Err (sym want.memory)) (λ e. let no : false ≡ true = sym is_ample ∙ e in absurd cc)
+        (λ e. want.may) did.0 counts puts
   ]
+
+  -- Of a line that asks something of the history.
+  pub answered_asked : (denial : Option Denial) → HasAsked s.state what denial u
+      → (ample ≡ true → IfSome denial (λ d. after_asking s.state what ≡ Err (denial_text d)))
+      → counts_in after ≡ counted_denial denial (counts_in before) → Puts told sink sink' result (answer_text denial)
+      → OneAnswer (spared ample undo_answering) told sink sink' result s line (λ (state : UndoState). UndoStands state u) after
+  answered_asked None did own counts puts = done did counts puts
+  answered_asked (Some denial) did own counts puts = denied ample refl denial did own counts puts
 
 -- Of a line that asks nothing of the history, from its attempts and the reply that was put.
 pub answered_line : {K T : Type 0} (told : ToldBySink K) (sink sink' : K) (result : Result T SinkFault)
     (s : Session UndoState) (text : List ℕ) (meaning : Option Line) (start turn : LineState) (u : UndoKept) (console : Kept)
-    (before after : Tally) → start ≡ unattempted meaning → console ≡ u.console → meaning ≡ line_of text → undo_line_of text ≡ None
+    (before after : Tally) (ample : Bool) → (ample ≡ true → turn.refusal ≢ Some Memory) → start ≡ unattempted meaning → console ≡ u.console → meaning ≡ line_of text → undo_line_of text ≡ None
     → s.counts ≡ counts_in before
     → LineProgress true (HasReached s.state u (start.left - turn.left)) (begun s.state.desk) start turn u.console → next_of turn ≡ None
     → ((d : Desk) → StandsFor d console → Puts told sink sink' result (reply_to d turn.meaning turn.refusal))
     → ((d : Desk) → StandsFor d console → OnOk result (counts_in after ≡ counts_after d (counts_in before) turn.meaning turn.refusal))
-    → OneAnswer undo_answering told sink sink' result s text (λ (state : UndoState). UndoStands state u) after
-answered_line told sink sink' result s text meant start turn u console before after begun_so same is none counted_so t over puts
+    → OneAnswer (spared ample undo_answering) told sink sink' result s text (λ (state : UndoState). UndoStands state u) after
+answered_line told sink sink' result s text meant start turn u console before after ample other begun_so same is none counted_so t over puts
     counts =
     let heard : List Command → Type 0 = HasReached s.state u (start.left - turn.left) in
     let meaning = line_of text in
     let from : start ≡ unattempted meaning = begun_so ∙ ap unattempted is in
-    let a = turn_answered true heard told sink sink' result s.counts (begun s.state.desk) meaning turn u.console before after
+    let a = turn_answered (ample ≡ true) true heard told sink sink' result s.counts (begun s.state.desk) meaning turn u.console before after other
     (subst (λ (v : LineState). LineProgress true heard (begun s.state.desk) v turn u.console) from t) over counted_so
     (λ d stands. puts d (subst (StandsFor d) (sym same) stands)) (λ d stands. counts d (subst (StandsFor d) (sym same) stands)) in
     let now : Attempt = record { state = a.now; refusal = a.refusal } in
@@ -114,8 +127,9 @@ answered_line told sink sink' result s text meant start turn u console before af
       failed = a.failed;
       goes_on = record {
         is = plain_answer a.failed s text none ∙ ap (λ (v : Attempt). after_attempts s meaning v (after_plain s.state v.state)) a.is;
-        allowed = allowed_some a.failed (UndoMayFail s.state text (undo_line_of text))
-            (λ failed. subst (UndoMayFail s.state text) (sym none) (a.at_edit failed refl));
+        allowed = spares ample a.failed (UndoMayFail s.state text (undo_line_of text)) a.none
+            (allowed_some a.failed (UndoMayFail s.state text (undo_line_of text))
+            (λ failed. subst (UndoMayFail s.state text) (sym none) (a.at_edit failed refl)));
       };
       stands = subst (λ (x : UndoState). UndoStands x u) (sym (r.state ∙ plain_is s.state a.now a.commands a.accepted a.desk))
           a.listened.stands;

@@ -1,15 +1,17 @@
 //! Lines that ask something of the history, done and answered.
 
-ghost use Rattle.std.specs.Prelude.{◌≡◌, true, IfOk};
+ghost use Rattle.std.specs.Prelude.{◌≡◌, ◌≤◌, true, Err, IfOk, IfSome};
 ghost use Rattle.lx_io.specs.Puts.{Puts};
 ghost use Rattle.lx_spec.specs.Undo.{UndoState};
+ghost use Rattle.lx_spec.specs.UndoSession.{after_asking};
+ghost use Rattle.lx_session.specs.Spared.{HasStood};
 ghost use Rattle.lx_session.specs.LineReply.{TallyHasRoom, HasOneMore, counts_in};
 ghost use Rattle.lx_script.specs.UndoLines.{NamesCue};
 ghost use Rattle.lx_undo.specs.UndoDeskMeaning.{UndoStands};
-ghost use Rattle.lx_undo.specs.HistoryLines.{HasAsked, answer_text, counted_denial};
+ghost use Rattle.lx_undo.specs.HistoryLines.{HasAsked, answer_text, counted_denial, denial_text};
 
 use crate::desk::UndoDesk;
-use lx_io::{Sink, SinkFault};
+use lx_io::{Heap, Sink, SinkFault};
 use lx_script::{Reply, put_reply, put_undo_fault};
 use lx_session::Tally;
 use lx_spec::{Refusal, UndoFault, UndoLine};
@@ -23,10 +25,14 @@ pub(crate) enum Denial {
     Desk(Refusal),
 }
 
-/// Does what a line asks. It answers why not, where it was refused; then the desk is as before.
-pub(crate) fn ask(desk: &mut UndoDesk, what: UndoLine) -> Option<Denial>
+/// Does what a line asks. It answers why not, where it was refused; then the desk is as before. Where the heap refused nothing in this call
+/// a refusal is the state's own.
+pub(crate) fn ask<H: Heap>(desk: &mut UndoDesk, heap: &mut H, what: UndoLine) -> Option<Denial>
     requires { NamesCue what }
-    ensures { (s : UndoState) → UndoStands s desk.old → HasAsked s what result desk.new }
+    ensures asked { (s : UndoState) → UndoStands s desk.old → HasAsked s what result desk.new }
+    ensures own { HasStood (H.refusals heap.old) (H.refusals heap.new) → (s : UndoState) → UndoStands s desk.old
+        → IfSome result (λ denial. after_asking s what ≡ Err (denial_text denial)) }
+    ensures later { H.refusals heap.old ≤ H.refusals heap.new }
 {
     match what {
         UndoLine::Undo => match desk.undo() {
@@ -37,7 +43,7 @@ pub(crate) fn ask(desk: &mut UndoDesk, what: UndoLine) -> Option<Denial>
             Ok(()) => None,
             Err(fault) => Some(Denial::History(fault)),
         },
-        UndoLine::Record { cue, only } => match desk.record(cue, only) {
+        UndoLine::Record { cue, only } => match desk.record_in(heap, cue, only) {
             Ok(()) => None,
             Err(refusal) => Some(Denial::Desk(refusal)),
         },

@@ -10,4 +10,4 @@ mod session;
 
 pub use desk::UndoDesk;
 pub use lx_spec::UndoFault;
-pub use session::undo_session;
+pub use session::{undo_session, undo_session_in};

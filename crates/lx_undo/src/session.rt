@@ -1,6 +1,6 @@
 //! Sessions of a desk with its history.
 
-ghost use Rattle.std.specs.Prelude.{◌≡◌, ◌≤◌, ◌-◌, List, ℕ, IfOk, IfSome, None, Some, not, true, option_copied, [], OnOk};
+ghost use Rattle.std.specs.Prelude.{◌≡◌, ◌≤◌, ◌-◌, ◌≢◌, List, ℕ, Bool, IfOk, IfSome, None, Some, not, true, option_copied, [], OnOk};
 ghost use Rattle.lx_base.specs.declared.TheConstants.{INPUT_BYTES};
 ghost use Rattle.lx_io.specs.Puts.{HasSinkCause};
 ghost use Rattle.lx_lex.specs.Unread.{CanAdvance, SameSource, bytes_taken, source_left, unread};
@@ -14,6 +14,7 @@ ghost use Rattle.lx_session.specs.LineState.{next_of, unattempted};
 ghost use Rattle.lx_session.specs.LineProgress.{LineProgress};
 ghost use Rattle.lx_session.specs.LineReply.{TallyHasRoom, HasOneMore, counts_in};
 ghost use Rattle.lx_session.specs.OneAnswer.{IsLine, OneAnswer};
+ghost use Rattle.lx_session.specs.Spared.{HasStood, spared};
 ghost use Rattle.lx_session.specs.ScriptAnswer.{ScriptAnswered};
 ghost use Rattle.lx_session.specs.SessionOutcome.{HasSessionCause, KeepsLimit};
 ghost use Rattle.lx_script.specs.LinesWithUndo.{IsReadWithUndo, IsValidWithUndo};
@@ -23,11 +24,12 @@ ghost use Rattle.lx_undo.specs.CommandProgress.{HasReached};
 
 use crate::asked::{ask, give};
 use crate::desk::UndoDesk;
-use lx_io::{Sink, SinkFault, Source};
+use lx_io::{Heap, Sink, SinkFault, Source};
 use lx_lex::Lines;
 use lx_script::{LineWithUndo, read_line_with_undo};
-use lx_session::{Answers, SessionFault, Tally, Turn, answer_lines};
-use lx_spec::{Line, UndoLine};
+use lx_session::{Answers, SessionFault, Tally, Turn, answer_lines, answer_lines_in};
+use lx_spec::{Line, Refusal, UndoLine};
+use std::alloc::Global;
 
 /// Answers the script lines that are left, up to `quit` or the end, on a desk with its history: those of a session, and
 /// `undo`, `redo` and `record n [only]`. Each line is done and its replies appended before the next is awaited.
@@ -55,6 +57,29 @@ pub fn undo_session<S: Source, K: Sink>(
     answer_lines(desk, lines, sink)
 }
 
+/// The same, by a heap: where it refused nothing in this call, no edit and no record was refused for want of memory.
+pub fn undo_session_in<H: Heap, S: Source, K: Sink>(
+    desk: &mut UndoDesk,
+    heap: &mut H,
+    lines: &mut Lines<S>,
+    sink: &mut K,
+) -> Result<Tally, SessionFault>
+    requires going { CanAdvance lines.old }
+    requires within { bytes_taken lines.old ≤ INPUT_BYTES }
+    ensures same_source { SameSource lines.old lines.new }
+    ensures outcome { (ample : Bool) → (ample ≡ true → HasStood (H.refusals heap.old) (H.refusals heap.new))
+        → (state : UndoState) → UndoStands state desk.old
+        → IfSome (unread S.Source lines.old)
+        (λ bytes. ScriptAnswered (spared ample undo_answering) (λ s. UndoStands s desk.new) state (bytes_taken lines.old) bytes
+        (unread S.Source lines.new) (source_left S.Source lines.new) (K.holds sink.old) (K.holds sink.new) result) }
+    ensures limit { IfSome (unread S.Source lines.old) (λ bytes. KeepsLimit (bytes_taken lines.old) bytes result) }
+    ensures cause { HasSessionCause S.Source K.Sink lines.old lines.new sink.old sink.new result }
+    ensures handed_on { OnOk result (K.back sink.new ≡ []) }
+    ensures later { H.refusals heap.old ≤ H.refusals heap.new }
+{
+    answer_lines_in(desk, heap, lines, sink)
+}
+
 impl Answers for UndoDesk {
     ghost use Rattle.lx_spec.specs.UndoSession.{undo_answering};
     ghost use Rattle.lx_undo.specs.UndoDeskMeaning.{UndoStands};
@@ -63,15 +88,20 @@ impl Answers for UndoDesk {
 
     ghost stands = { UndoStands };
 
-    fn answer<K: Sink>(
+    fn allocator(&self) -> Global {
+        self.console().allocator()
+    }
+
+    fn answer_in<H: Heap, K: Sink>(
         &mut self,
+        heap: &mut H,
         line: Option<&[u8]>,
         sink: &mut K,
         tally: &mut Tally,
     ) -> Result<bool, SinkFault> {
         match read(line) {
-            LineWithUndo::OfHistory(what) => answer_asked(self, what, sink, tally),
-            LineWithUndo::OfDesk(meaning) => answer_plain(self, meaning, sink, tally),
+            LineWithUndo::OfHistory(what) => answer_asked(self, heap, what, sink, tally),
+            LineWithUndo::OfDesk(meaning) => answer_plain(self, heap, meaning, sink, tally),
         }
     }
 }
@@ -88,60 +118,68 @@ fn read(line: Option<&[u8]>) -> LineWithUndo<'_>
 }
 
 /// Does what a line asks of the history, then appends its reply and counts it. It answers true: the session goes on.
-fn answer_asked<K: Sink>(
+fn answer_asked<H: Heap, K: Sink>(
     desk: &mut UndoDesk,
+    heap: &mut H,
     what: UndoLine,
     sink: &mut K,
     tally: &mut Tally,
 ) -> Result<bool, SinkFault>
     requires cue { NamesCue what }
     requires room { TallyHasRoom tally.old }
-    ensures answered { (s : Session UndoState) (text : List ℕ) → UndoStands s.state desk.old → s.counts ≡ counts_in tally.old
+    ensures answered { (ample : Bool) → (ample ≡ true → HasStood (H.refusals heap.old) (H.refusals heap.new))
+        → (s : Session UndoState) (text : List ℕ) → UndoStands s.state desk.old → s.counts ≡ counts_in tally.old
         → undo_line_of text ≡ Some what
-        → OneAnswer undo_answering K.Sink sink.old sink.new result s text
+        → OneAnswer (spared ample undo_answering) K.Sink sink.old sink.new result s text
         (λ state. UndoStands state desk.new) tally.new }
     ensures more { IfOk result (λ more. more ≡ true) }
     ensures cause { HasSinkCause K.Sink sink.old sink.new result }
     ensures counted { HasOneMore tally.old tally.new }
+    ensures later { H.refusals heap.old ≤ H.refusals heap.new }
 {
-    let denial = ask(desk, what);
+    let denial = ask(desk, heap, what);
     give(denial, sink, tally)
 }
 
 /// Does what any other line asks for, which means this, then appends its replies and counts them. None stands for a bad line.
 /// It answers false exactly for `quit`.
-fn answer_plain<K: Sink>(
+fn answer_plain<H: Heap, K: Sink>(
     desk: &mut UndoDesk,
+    heap: &mut H,
     meaning: Option<Line>,
     sink: &mut K,
     tally: &mut Tally,
 ) -> Result<bool, SinkFault>
     requires valid { IfSome meaning ValidLine }
     requires room { TallyHasRoom tally.old }
-    ensures answered { (s : Session UndoState) (text : List ℕ) → UndoStands s.state desk.old → s.counts ≡ counts_in tally.old
+    ensures answered { (ample : Bool) → (ample ≡ true → HasStood (H.refusals heap.old) (H.refusals heap.new))
+        → (s : Session UndoState) (text : List ℕ) → UndoStands s.state desk.old → s.counts ≡ counts_in tally.old
         → meaning.entry ≡ line_of text → undo_line_of text ≡ None
-        → OneAnswer undo_answering K.Sink sink.old sink.new result s text
+        → OneAnswer (spared ample undo_answering) K.Sink sink.old sink.new result s text
         (λ state. UndoStands state desk.new) tally.new }
     ensures quit { IfOk result (λ more. (text : List ℕ) → meaning.entry ≡ line_of text → more ≡ not (ends_script text)) }
     ensures cause { HasSinkCause K.Sink sink.old sink.new result }
     ensures counted { HasOneMore tally.old tally.new }
+    ensures later { H.refusals heap.old ≤ H.refusals heap.new }
 {
     let mut turn = Turn::of(meaning);
-    attempt_all(desk, &mut turn);
+    attempt_all(desk, heap, &mut turn);
     turn.finish(desk.console(), sink, tally)
 }
 
 /// Attempts the commands of a line that asks nothing of the history.
-fn attempt_all(desk: &mut UndoDesk, turn: &mut Turn)
+fn attempt_all<H: Heap>(desk: &mut UndoDesk, heap: &mut H, turn: &mut Turn)
     requires start { turn.old ≡ unattempted turn.old.meaning }
     requires valid { IfSome turn.old.meaning ValidLine }
     ensures over { next_of turn.new ≡ None }
     ensures meaning { turn.new.meaning ≡ turn.old.meaning }
     ensures tried { (s : UndoState) → UndoStands s desk.old
         → LineProgress true (HasReached s desk.new (turn.old.left - turn.new.left)) (begun s.desk) turn.old turn.new desk.new.console }
+    ensures memory { HasStood (H.refusals heap.old) (H.refusals heap.new) → turn.new.refusal ≢ Some Refusal.Memory }
+    ensures later { H.refusals heap.old ≤ H.refusals heap.new }
 {
     'commands: while let Some(command) = turn.next() {
-        let refusal = desk.command(command).err();
+        let refusal = desk.command_in(heap, command).err();
         turn.attempted(refusal);
     }
 }

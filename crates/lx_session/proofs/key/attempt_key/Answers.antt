@@ -49,3 +49,9 @@ returns-then-is_none-clause-all g c = λ every. (c.admit-admitted.ensures.all (c
 
 pub returns-else-is_none-clause-all : goal.returns-else-is_none-clause-all
 returns-else-is_none-clause-all g c = λ every. (c.admit-admitted.ensures.all every).1
+
+pub returns-then-is_none-clause-memory : goal.returns-then-is_none-clause-memory
+returns-then-is_none-clause-memory g c = λ every. c.try_key-refusal.ensures.memory (c.admit-admitted.ensures.all (c.hear.ensures.all every)).0
+
+pub returns-else-is_none-clause-memory : goal.returns-else-is_none-clause-memory
+returns-else-is_none-clause-memory g c = λ every. c.try_key-refusal.ensures.memory (c.admit-admitted.ensures.all every).0

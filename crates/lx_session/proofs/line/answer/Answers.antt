@@ -1,12 +1,4 @@
-use Rattle.lx_session.proofs.Imports.{Some, sym, subst, LineAnswer}
-use Rattle.lx_spec.specs.declared.Command.TheVariants as commands
-use Rattle.lx_spec.specs.declared.Key.TheVariants as keys
-use Rattle.lx_spec.specs.declared.Line.TheVariants as lines
 use Rattle.lx_session.proofs.line.answer.Goals as goal
 
-pub returns-in-Some-clause-answered : goal.returns-in-Some-clause-answered
-returns-in-Some-clause-answered g c = λ s stands counted.
-    subst
-    (λ m. LineAnswer (g.L.Listener.admitted_all c.answer_key.new.listener) (g.L.Listener.heard c.args.listener.now c.answer_key.new.listener)
-    g.K.Sink c.args.sink.now c.answer_key.new.sink c.answer_key.result s m c.answer_key.new.console c.answer_key.new.tally) (sym c.in-Some.ensures)
-    (c.answer_key.ensures.answered s stands counted)
+pub returns-clause-answered : goal.returns-clause-answered
+returns-clause-answered g c = λ s stands counted. (c.answer_in.ensures.answered s stands counted).answer

@@ -1,6 +1,7 @@
-use Rattle.lx_session.proofs.Imports.{◌≡◌, ◌∙◌, ap, sym, Some, [], ◌∷◌, heard_of, next_of}
+use Rattle.lx_session.proofs.Imports.{◌≡◌, ◌≤◌, ◌∙◌, ap, sym, arith, None, Some, Option, [], ◌∷◌, Refusal, heard_of, next_of}
 use Rattle.lx_spec.specs.declared.Command.TheVariants as commands
 use Rattle.lx_session.proofs.AttemptSteps.{nothing_yet, attempted_so, admitted_so_far, passed}
+use Rattle.lx_session.proofs.Stood.{ample_since}
 use Rattle.lx_session.proofs.ValidNext.{valid_next}
 use Rattle.lx_session.proofs.line.attempt_all.Goals as goal
 
@@ -12,6 +13,9 @@ commands-init g c =
       keeps = c.pass_ticks.ensures.keeps;
       all = λ every. every;
       meaning = ap (λ t. t.meaning) c.pass_ticks.ensures.passed.turn;
+      later = omega arith;
+      memory = λ ample is.
+          let none : c.pass_ticks.new.turn.refusal ≡ None = ap (λ t. t.refusal) c.pass_ticks.ensures.passed.turn ∙ c.requires.start in cc;
       progress = λ s stands.
           passed (g.L.Listener.admitted_all here) heard heard s c.args.turn.now c.args.turn.now c.pass_ticks.new.turn c.args.console.now
           c.pass_ticks.new.console
@@ -31,6 +35,12 @@ commands-preserved g c =
       all = λ every. c.commands.invariant.all (c.attempt_one-refusal.ensures.all every);
       meaning = ap (λ t. t.meaning) c.pass_ticks-in-Some.ensures.passed.turn ∙ ap (λ t. t.meaning) c.attempted.ensures
           ∙ c.commands.invariant.meaning;
+      later = omega (arith, c.commands.invariant.later, c.attempt_one-refusal.ensures.later);
+      memory = λ ample is.
+          let same : c.pass_ticks-in-Some.new.turn.refusal ≡ c.attempt_one-refusal.result = ap (λ t. t.refusal) c.pass_ticks-in-Some.ensures.passed.turn
+          ∙ ap (λ t. t.refusal) c.attempted.ensures in
+          c.attempt_one-refusal.ensures.memory (ample_since (g.L.Listener.admitted_all here) (g.H.Heap.refusals c.args.heap.now)
+          (g.H.Heap.refusals c.commands.heap) (g.H.Heap.refusals c.attempt_one-refusal.new.heap) c.commands.invariant.later ample) (sym same ∙ is);
       progress = λ s stands.
           passed (g.L.Listener.admitted_all here) (g.L.Listener.heard first here) (g.L.Listener.heard here here) s c.args.turn.now
           c.attempted.new.self c.pass_ticks-in-Some.new.turn c.attempt_one-refusal.new.console c.pass_ticks-in-Some.new.console

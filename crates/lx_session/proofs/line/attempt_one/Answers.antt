@@ -48,3 +48,11 @@ returns-then-is_none-clause-all g c = λ every. (c.admit-admitted.ensures.all (c
 
 pub returns-else-is_none-clause-all : goal.returns-else-is_none-clause-all
 returns-else-is_none-clause-all g c = λ every. (c.admit-admitted.ensures.all every).1
+
+pub returns-then-is_none-clause-memory : goal.returns-then-is_none-clause-memory
+returns-then-is_none-clause-memory g c = λ ample. c.try_command-refusal.ensures.memory
+    (record { admitted = (c.admit-admitted.ensures.all (c.hear.ensures.all ample.admitted)).0; stood = ample.stood })
+
+pub returns-else-is_none-clause-memory : goal.returns-else-is_none-clause-memory
+returns-else-is_none-clause-memory g c = λ ample. c.try_command-refusal.ensures.memory
+    (record { admitted = (c.admit-admitted.ensures.all ample.admitted).0; stood = ample.stood })

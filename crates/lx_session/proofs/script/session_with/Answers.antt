@@ -1,8 +1,5 @@
-use Rattle.lx_session.proofs.Imports.{refl, begun}
+use Rattle.lx_session.proofs.Imports.{false}
 use Rattle.lx_session.proofs.script.session_with.Goals as goal
 
 pub returns-clause-outcome : goal.returns-clause-outcome
-returns-clause-outcome g c = λ d stands.
-    let first = c.args.listener.now in
-    c.answer_each.ensures.outcome (g.L.Listener.admitted_all c.answer_each.new.answerer) (λ is. is) (record { listener = first; desk = d }) (begun d)
-    (record { stands = stands; desk = refl; listened = g.met.L.Listener.nothing first })
+returns-clause-outcome g c = λ d stands. c.session_with_in.ensures.outcome false (λ no. absurd cc) d stands

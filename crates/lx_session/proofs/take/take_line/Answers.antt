@@ -3,7 +3,7 @@ use Rattle.lx_session.proofs.LineOutcomes.{answered, unwritten, end_unflushed, c
 use Rattle.lx_session.proofs.take.take_line.Goals as goal
 
 pub returns-in_err-give_reply-in-Line-clause-outcome : goal.returns-in_err-give_reply-in-Line-clause-outcome
-returns-in_err-give_reply-in-Line-clause-outcome g c = λ all so_far.
+returns-in_err-give_reply-in-Line-clause-outcome g c = λ all ample may.
     let e = c.in-Line.ensures in
     unwritten _ (λ since state. g.A.AnswersBeside.stands since all state c.args.answerer.now c.args.lent.now)
     (λ since state. g.A.AnswersBeside.stands since all state c.give_reply.new.answerer c.give_reply.new.lent) g.S.Source
@@ -11,20 +11,20 @@ returns-in_err-give_reply-in-Line-clause-outcome g c = λ all so_far.
     (g.K.Sink.holds c.give_reply.new.sink) c.args.tally.now c.give_reply.new.tally e.step.0 c.in_err-give_reply-in-Line.field-0.0
     c.from_residual-in_err-give_reply-in-Line.result c.from_residual-in_err-give_reply-in-Line.ensures
     (handed_one _ _ _ e.step.0 e.step.1 e.counted.1 e.counted.0 e.same_reference e.cause.kept) c.flush_before_wait.ensures.holds
-    (c.in_err-give_reply-in-Line.ensures.outcome all so_far _ (c.line.ensures.line ∙ e.step.2))
+    (c.in_err-give_reply-in-Line.ensures.outcome all ample may _ (c.line.ensures.line ∙ e.step.2))
 
 pub returns-in_ok-give_reply-in-Line-clause-outcome : goal.returns-in_ok-give_reply-in-Line-clause-outcome
-returns-in_ok-give_reply-in-Line-clause-outcome g c = λ all so_far.
+returns-in_ok-give_reply-in-Line-clause-outcome g c = λ all ample may.
     let e = c.in-Line.ensures in
     answered _ (λ since state. g.A.AnswersBeside.stands since all state c.args.answerer.now c.args.lent.now)
     (λ since state. g.A.AnswersBeside.stands since all state c.give_reply.new.answerer c.give_reply.new.lent) g.S.Source
     c.args.lines.now c.advance.new.self (g.K.Sink.holds c.args.sink.now) (g.K.Sink.holds c.flush_before_wait.new.sink)
     (g.K.Sink.holds c.give_reply.new.sink) c.args.tally.now c.give_reply.new.tally e.step.0 c.in_ok-give_reply-in-Line.field-0
     (handed_one _ _ _ e.step.0 e.step.1 e.counted.1 e.counted.0 e.same_reference e.cause.kept) c.flush_before_wait.ensures.holds
-    (c.in_ok-give_reply-in-Line.ensures.outcome all so_far _ (c.line.ensures.line ∙ e.step.2))
+    (c.in_ok-give_reply-in-Line.ensures.outcome all ample may _ (c.line.ensures.line ∙ e.step.2))
 
 pub returns-in_err-give_reply-in-LongLine-clause-outcome : goal.returns-in_err-give_reply-in-LongLine-clause-outcome
-returns-in_err-give_reply-in-LongLine-clause-outcome g c = λ all so_far.
+returns-in_err-give_reply-in-LongLine-clause-outcome g c = λ all ample may.
     let e = c.in-LongLine.ensures in
     unwritten _ (λ since state. g.A.AnswersBeside.stands since all state c.args.answerer.now c.args.lent.now)
     (λ since state. g.A.AnswersBeside.stands since all state c.give_reply-in-LongLine.new.answerer c.give_reply-in-LongLine.new.lent) g.S.Source
@@ -33,10 +33,10 @@ returns-in_err-give_reply-in-LongLine-clause-outcome g c = λ all so_far.
     c.in_err-give_reply-in-LongLine.field-0.0 c.from_residual-in_err-give_reply-in-LongLine.result
     c.from_residual-in_err-give_reply-in-LongLine.ensures
     (handed_one _ _ _ e.step.0 e.step.1 e.counted.1 e.counted.0 e.same_reference e.cause.kept) c.flush_before_wait.ensures.holds
-    (c.in_err-give_reply-in-LongLine.ensures.outcome all so_far _ e.step.3)
+    (c.in_err-give_reply-in-LongLine.ensures.outcome all ample may _ e.step.3)
 
 pub returns-in_ok-give_reply-in-LongLine-clause-outcome : goal.returns-in_ok-give_reply-in-LongLine-clause-outcome
-returns-in_ok-give_reply-in-LongLine-clause-outcome g c = λ all so_far.
+returns-in_ok-give_reply-in-LongLine-clause-outcome g c = λ all ample may.
     let e = c.in-LongLine.ensures in
     answered _ (λ since state. g.A.AnswersBeside.stands since all state c.args.answerer.now c.args.lent.now)
     (λ since state. g.A.AnswersBeside.stands since all state c.give_reply-in-LongLine.new.answerer c.give_reply-in-LongLine.new.lent) g.S.Source
@@ -44,10 +44,10 @@ returns-in_ok-give_reply-in-LongLine-clause-outcome g c = λ all so_far.
     (g.K.Sink.holds c.give_reply-in-LongLine.new.sink) c.args.tally.now c.give_reply-in-LongLine.new.tally e.step.0
     c.in_ok-give_reply-in-LongLine.field-0
     (handed_one _ _ _ e.step.0 e.step.1 e.counted.1 e.counted.0 e.same_reference e.cause.kept) c.flush_before_wait.ensures.holds
-    (c.in_ok-give_reply-in-LongLine.ensures.outcome all so_far _ e.step.3)
+    (c.in_ok-give_reply-in-LongLine.ensures.outcome all ample may _ e.step.3)
 
 pub returns-in_err-flush-in-End-clause-outcome : goal.returns-in_err-flush-in-End-clause-outcome
-returns-in_err-flush-in-End-clause-outcome g c = λ all so_far.
+returns-in_err-flush-in-End-clause-outcome g c = λ all ample may.
     let e = c.in-End.ensures in
     end_unflushed _ (λ since state. g.A.AnswersBeside.stands since all state c.args.answerer.now c.args.lent.now) g.S.Source
     c.args.lines.now c.advance.new.self (g.K.Sink.holds c.args.sink.now) (g.K.Sink.holds c.flush_before_wait.new.sink)
@@ -56,14 +56,14 @@ returns-in_err-flush-in-End-clause-outcome g c = λ all so_far.
     c.flush.ensures.holds e.step.0 e.ended
 
 pub returns-in-ReadFault-clause-outcome : goal.returns-in-ReadFault-clause-outcome
-returns-in-ReadFault-clause-outcome g c = λ all so_far.
+returns-in-ReadFault-clause-outcome g c = λ all ample may.
     let e = c.in-ReadFault.ensures in
     cut_off (λ since state. g.A.AnswersBeside.stands since all state c.args.answerer.now c.args.lent.now) g.S.Source
     c.args.lines.now c.advance.new.self (g.K.Sink.holds c.args.sink.now) (g.K.Sink.holds c.flush_before_wait.new.sink) c.args.tally.now
     (record { raw = e.step.0; fed = false; took = e.step.1; stop = inr (refl, e.none_held refl) }) c.flush_before_wait.ensures.holds
 
 pub returns-in-InputTooLong-clause-outcome : goal.returns-in-InputTooLong-clause-outcome
-returns-in-InputTooLong-clause-outcome g c = λ all so_far.
+returns-in-InputTooLong-clause-outcome g c = λ all ample may.
     let e = c.in-InputTooLong.ensures in (
       cut_off (λ since state. g.A.AnswersBeside.stands since all state c.args.answerer.now c.args.lent.now) g.S.Source
           c.args.lines.now c.advance.new.self (g.K.Sink.holds c.args.sink.now) (g.K.Sink.holds c.flush_before_wait.new.sink) c.args.tally.now

@@ -10,10 +10,10 @@ attempt_all-requires-clause-valid g c =
     subst (λ m. IfSome m ValidLine) (sym (ap (λ (t : LineState). t.meaning) c.of-turn.ensures)) c.requires.valid
 
 pub returns-clause-answered : goal.returns-clause-answered
-returns-clause-answered g c = λ s text stands counted is none.
+returns-clause-answered g c = λ ample stood s text stands counted is none.
     answered_line g.K.Sink c.args.sink.now c.finish.new.sink c.finish.result s text
     c.args.meaning c.of-turn.result c.attempt_all.new.turn c.attempt_all.new.desk c.console.result.now c.args.tally.now
-    c.finish.new.tally c.of-turn.ensures c.console.ensures is none counted (c.attempt_all.ensures.tried s.state stands)
+    c.finish.new.tally ample (λ is_ample. c.attempt_all.ensures.memory (stood is_ample)) c.of-turn.ensures c.console.ensures is none counted (c.attempt_all.ensures.tried s.state stands)
     c.attempt_all.ensures.over c.finish.ensures.text c.finish.ensures.counts
 
 pub returns-clause-quit : goal.returns-clause-quit

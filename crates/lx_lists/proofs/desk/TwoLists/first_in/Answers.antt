@@ -1,8 +1,8 @@
 use Rattle.lx_lists.proofs.KeptLists.{first_kept}
-use Rattle.lx_lists.proofs.desk.TwoLists.first.Goals as goal
+use Rattle.lx_lists.proofs.desk.TwoLists.first_in.Goals as goal
 
 pub follow-requires : goal.follow-requires
-follow-requires c = record {
+follow-requires g c = record {
   before = c.self.inside.first;
   channels = c.self.invariant.channels;
   filled = c.self.invariant.filled;
@@ -10,6 +10,6 @@ follow-requires c = record {
 }
 
 pub invariant_of-self-2 : goal.invariant_of-self-2
-invariant_of-self-2 c = first_kept c.args.command.now c.in_ok-change.change c.in_ok-change.change c.self.inside.first c.self.inside.second
-    c.command.new.self c.self.inside.output c.follow.new.self c.self.invariant c.in_ok-change.ensures.answers
+invariant_of-self-2 g c = first_kept c.args.command.now c.in_ok-change.change c.in_ok-change.change c.self.inside.first c.self.inside.second
+    c.command_in.new.self c.self.inside.output c.follow.new.self c.self.invariant c.in_ok-change.ensures.answers
     c.in_ok-change.ensures.changes (c.in_ok-change.ensures.moment c.requires.taken) c.follow.ensures
