@@ -12,20 +12,21 @@ pub fn is_line(bytes: &[u8]) -> bool
     ensures { result ≡ is_bare bytes.now }
 {
     match bytes.len() {
-        4..=8 => !has_end_in_halves(bytes),
-        9..=32 => !has_end_in_quarters(bytes),
+        4..=8 => !has_end_in_halves(bytes, 4),
+        9..=16 => !has_end_in_halves(bytes, 8),
+        17..=32 => !has_end_in_quarters(bytes),
         _ => !bytes.contains(&b'\n') && !bytes.contains(&b'\r'),
     }
 }
 
-/// Whether one of four to eight bytes ends a line.
+/// Whether one of the bytes ends a line, of which there are at least so many and at most twice so many.
 #[inline(always)]
-fn has_end_in_halves(bytes: &[u8]) -> bool
-    requires low { 4 ≤ length bytes.now }
-    requires high { length bytes.now ≤ 8 }
+fn has_end_in_halves(bytes: &[u8], half: usize) -> bool
+    requires low { half ≤ length bytes.now }
+    requires high { length bytes.now ≤ half + half }
     ensures { TellsEnd bytes.now 0 (length bytes.now) result }
 {
-    has_end(bytes, 0, 4) | has_end(bytes, bytes.len() - 4, 4)
+    has_end(bytes, 0, half) | has_end(bytes, bytes.len() - half, half)
 }
 
 /// Whether one of eight to 32 bytes ends a line.

@@ -1,7 +1,7 @@
 //! The reply to a line, as it is kept.
 #![tactic(auto, using(lx_io::proofs::Chain::puts))]
 
-ghost use Rattle.std.specs.Prelude.{◌≡◌, ◌≤◌, ◌<◌, ◌+◌, ◌++◌, [], Some, length, IsOk, IfOk, OnOk};
+ghost use Rattle.std.specs.Prelude.{◌≡◌, ◌≤◌, ◌<◌, ◌+◌, ◌^◌, ◌++◌, [], Some, length, IsOk, IfOk, OnOk};
 ghost use Rattle.std.specs.Bool.{OnTrue};
 ghost use Rattle.std.specs.Io.KnownBytes.{WriteAppends, Keeps};
 ghost use Rattle.lx_io.specs.SinkCalls.{HasSinkCauseBy};
@@ -67,11 +67,12 @@ impl ReplyText {
     /// Sees to room for this many bytes behind the reply.
     #[inline(always)]
     fn ensure_room(&mut self, count: usize) -> Result<(), SinkFault>
+        requires { count < 2 ^ 63 }
         ensures bytes { reply_bytes self.new ≡ reply_bytes self.old }
         ensures room { OnOk result (self.new.len + count ≤ length self.new.room.items) }
         ensures cause { HasSinkCauseBy (λ _. 0) (λ s. s.wants) self.old self.new result }
     {
-        if self.room.len() - self.len < count {
+        if self.len + count > self.room.len() {
             return self.make_room(count);
         }
         Ok(())

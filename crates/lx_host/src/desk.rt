@@ -44,6 +44,15 @@ impl CueDesk {
         }
     }
 
+    /// Opens a closed desk over this.
+    pub(crate) fn put(&mut self, host: Box<HostDesk, Global>)
+        requires { self.old.handle.held ≡ None }
+        ensures { self.new.handle.held ≡ Some host.value }
+    {
+        self.handle = Handle::of_parts(Parts::of(host));
+        self.is_open = true;
+    }
+
     /// Takes out what an open desk leads to, and leaves it closed.
     pub(crate) fn take(&mut self, alloc: Global) -> Box<HostDesk, Global>
         requires { is_some self.old.handle.held ≡ true }

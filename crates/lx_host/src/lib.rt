@@ -159,20 +159,37 @@ pub extern "C" fn cuedesk_command(
         → (result ≡ NOT_A_LINE) × (desk.new.handle.held ≡ desk.old.handle.held) × (reply.new ≡ reply.old) }
     ensures closed { desk.old.handle.held ≡ None → (result ≡ CLOSED) × (desk.new.handle.held ≡ None) × (reply.new ≡ reply.old) }
 {
-    *len = 0;
     if !desk.is_open() {
+        *len = 0;
         return CLOSED;
     }
     if !is_line(line) {
+        *len = 0;
         return NOT_A_LINE;
     }
     let mut host = desk.take(alloc);
     let answered = host.command(line);
-    *len = host.reply().len();
-    copy_part(host.reply(), 0, reply);
-    let fits = host.reply().len() <= reply.len();
-    *desk = CueDesk::of(host);
-    status_of(answered, fits)
+    let count = copy_front(host.reply(), reply);
+    desk.put(host);
+    *len = count;
+    status_of(answered, count <= reply.len())
+}
+
+/// Copies the bytes to the front of `out`, as many as fit, and says how many bytes there are. Most replies are `ok` and the line's
+/// end, and are copied at once.
+#[inline(always)]
+fn copy_front(bytes: &[u8], out: &mut [u8]) -> usize
+    ensures count { result ≡ length bytes.now }
+    ensures front { take (min result (length out.new)) out.new ≡ take (min result (length out.new)) bytes.now }
+{
+    if bytes.len() == 3 && out.len() >= 3 {
+        out[0] = bytes[0];
+        out[1] = bytes[1];
+        out[2] = bytes[2];
+    } else {
+        copy_part(bytes, 0, out);
+    }
+    bytes.len()
 }
 
 /// How the answer to a line is told, whose reply fits or doesn't.

@@ -5,5 +5,7 @@ use Rattle.lx_embed.proofs.one_line.has_end_in_halves.Goals as goal
 pub returns : goal.returns
 returns c =
     let n = length c.args.bytes.now in
-    runs_on c.args.bytes.now _ _ 4 (n - 4) (n - 4 + 4) n (omega (arith, c.requires.high)) c.requires.low (omega (arith, c.requires.low))
-    c.has_end.ensures c.has_end-2.ensures
+    let half = c.args.half in
+    let low = c.requires.low in
+    runs_on c.args.bytes.now _ _ (0 + half) (n - half) (n - half + half) n (omega (arith, c.requires.high)) (omega (arith, low))
+    (omega (arith, low)) c.has_end.ensures c.has_end-2.ensures
