@@ -3,7 +3,7 @@ use Rattle.lx_crew.proofs.Imports.{◌≡◌, inl, inr, ℕ, ◌+◌, Bool, fals
 use Rattle.lx_crew.proofs.Imports.{◌++◌, length, take, drop, take-append-drop, refl, sym, ap, ◌∙◌, subst, append-nil, append_assoc, arith}
 use Rattle.lx_crew.proofs.Imports.{length-append, IfSome, is_some, Appends, Keeps, take-append_seam, length-replicate, LINE_BYTES, SinkFault, AppendsFront}
 use Rattle.lx_crew.proofs.Imports.{CrewEntry, op_text, named, after_entry, crew_answering, crew_text, Desk, Kept, line_of, Session, begin_at, AreAllowed}
-use Rattle.lx_crew.proofs.Imports.{DeskState, begun, IsAcceptedEdit, StandsFor, Tally, meaning_is, extends_line, Entry, Line, LongLine, text_in, long_line}
+use Rattle.lx_crew.proofs.Imports.{DeskState, begun, IsAcceptedEdit, StandsFor, Tally, meaning_is, extends_line, Message, Line, LongLine, text_in, long_line}
 use Rattle.lx_crew.proofs.Imports.{named_line, entries_of, said, NamedAnswer, AnswersNamed, IsDoneWithEntries, AnsweredAll, AnsweredPart, HasAnswered}
 use Rattle.lx_crew.proofs.Imports.{ToldBySink}
 use Rattle.std.specs.Result.{result_err}
@@ -38,10 +38,10 @@ done_more d entries failures now next e failed done is may =
     }
 
 -- What is said of one more.
-said_more : (popped : List Entry) (e : Entry) (more : List CrewEntry) → entries_of e.place e.number e.sent ≡ more
+said_more : (popped : List Message) (e : Message) (more : List CrewEntry) → entries_of e.place e.number e.sent ≡ more
     → said (popped ++ e ∷ []) ≡ said popped ++ more
 said_more popped e more is =
-    flat_map-append (λ (x : Entry). entries_of x.place x.number x.sent) popped (e ∷ [])
+    flat_map-append (λ (x : Message). entries_of x.place x.number x.sent) popped (e ∷ [])
     ∙ ap (λ (l : List CrewEntry). said popped ++ l) (append-nil (entries_of e.place e.number e.sent) ∙ is)
 
 pub answered_none : (d : Desk) (h : Option (List ℕ)) (console : Kept) (tally : Tally) → StandsFor d console
@@ -55,7 +55,7 @@ front_of a b front rest text is p = AppendsFront-from a b text (length front)
 
 -- one more line was answered
 answered_line : {K : Type 0} (told : ToldBySink K) (sink sink' : K) (b : Bool) (d : Desk)
-    (popped : List Entry) (start : Option (List ℕ)) (console console' : Kept) (tally tally' : Tally) (entry : Entry) (e : CrewEntry)
+    (popped : List Message) (start : Option (List ℕ)) (console console' : Kept) (tally tally' : Tally) (entry : Message) (e : CrewEntry)
     → (a : AnsweredAll d popped start (told.holds sink) console tally) → entries_of entry.place entry.number entry.sent ≡ e ∷ []
     → NamedAnswer told sink sink' (Ok b) a.now (op_text e) (line_of e.line) console' tally'
     → AnsweredAll d (popped ++ entry ∷ []) start (told.holds sink') console' tally'
@@ -76,7 +76,7 @@ answered_line told sink sink' b d popped start console console' tally tally' ent
 
 -- or a prefix of its reply was written
 answered_front : {K : Type 0} (told : ToldBySink K) (sink sink' : K) (f : SinkFault) (d : Desk)
-    (popped : List Entry) (start : Option (List ℕ)) (console console' : Kept) (tally tally' : Tally) (entry : Entry) (e : CrewEntry)
+    (popped : List Message) (start : Option (List ℕ)) (console console' : Kept) (tally tally' : Tally) (entry : Message) (e : CrewEntry)
     → (a : AnsweredAll d popped start (told.holds sink) console tally) → entries_of entry.place entry.number entry.sent ≡ e ∷ []
     → NamedAnswer told sink sink' (Err f) a.now (op_text e) (line_of e.line) console' tally'
     → AnsweredPart d (popped ++ entry ∷ []) start (told.holds sink')
@@ -103,7 +103,7 @@ answered_front told sink sink' f d popped start console console' tally tally' en
     }
 
 -- or a prefix of its name
-answered_name : (d : Desk) (popped : List Entry) (start h h' : Option (List ℕ)) (console : Kept) (tally : Tally) (entry : Entry)
+answered_name : (d : Desk) (popped : List Message) (start h h' : Option (List ℕ)) (console : Kept) (tally : Tally) (entry : Message)
     (e : CrewEntry) → AnsweredAll d popped start h console tally → entries_of entry.place entry.number entry.sent ≡ e ∷ []
     → AppendsFront h h' (op_text e) → AnsweredPart d (popped ++ entry ∷ []) start h'
 answered_name d popped start h h' console tally entry e a is name =
@@ -131,7 +131,7 @@ answered_name d popped start h h' console tally entry e a is name =
     }
 
 -- a flush leaves what is written
-answered_kept : (d : Desk) (popped : List Entry) (start h h' : Option (List ℕ)) (console : Kept) (tally : Tally)
+answered_kept : (d : Desk) (popped : List Message) (start h h' : Option (List ℕ)) (console : Kept) (tally : Tally)
     → AnsweredAll d popped start h console tally → Keeps h h' → AnsweredAll d popped start h' console tally
 answered_kept d popped start h h' console tally a kept = record {
   failures = a.failures;
@@ -142,7 +142,7 @@ answered_kept d popped start h h' console tally a kept = record {
   stands = a.stands;
 }
 
-answered_so_far : (d : Desk) (popped : List Entry) (start h : Option (List ℕ)) (console : Kept) (tally : Tally)
+answered_so_far : (d : Desk) (popped : List Message) (start h : Option (List ℕ)) (console : Kept) (tally : Tally)
     → AnsweredAll d popped start h console tally → AnsweredPart d popped start h
 answered_so_far d popped start h console tally a = record {
   first = popped;
@@ -155,12 +155,12 @@ answered_so_far d popped start h console tally a = record {
 }
 
 -- An entry has a line, which is given or, being too long, isn't.
-pub record IsSaid (entry : Entry) (given : Option (List ℕ)) : Type 0 where
+pub record IsSaid (entry : Message) (given : Option (List ℕ)) : Type 0 where
   pub line : List ℕ
   pub said : entries_of entry.place entry.number entry.sent ≡ named_line entry.place entry.number line ∷ []
   pub means : meaning_of given ≡ line_of line
 
-pub said_text : (entry : Entry) (l : LineText) (given : Option (List ℕ)) → entry.sent ≡ Line l → given ≡ Some (text_in l)
+pub said_text : (entry : Message) (l : LineText) (given : Option (List ℕ)) → entry.sent ≡ Line l → given ≡ Some (text_in l)
     → IsSaid entry given
 said_text entry l given is text = record {
   line = text_in l;
@@ -168,7 +168,7 @@ said_text entry l given is text = record {
   means = ap meaning_of text;
 }
 
-pub said_long : (entry : Entry) (given : Option (List ℕ)) → entry.sent ≡ LongLine → given ≡ None → IsSaid entry given
+pub said_long : (entry : Message) (given : Option (List ℕ)) → entry.sent ≡ LongLine → given ≡ None → IsSaid entry given
 said_long entry given is none = record {
   line = long_line;
   said = ap (entries_of entry.place entry.number) is;
@@ -176,7 +176,7 @@ said_long entry given is none = record {
 }
 
 answered_by : {K : Type 0} (told : ToldBySink K) (sink sink' : K) (result : Result Bool SinkFault)
-    (d : Desk) (popped : List Entry) (start : Option (List ℕ)) (console console' : Kept) (tally tally' : Tally) (entry : Entry)
+    (d : Desk) (popped : List Message) (start : Option (List ℕ)) (console console' : Kept) (tally tally' : Tally) (entry : Message)
     (e : CrewEntry) → (a : AnsweredAll d popped start (told.holds sink) console tally)
     → entries_of entry.place entry.number entry.sent ≡ e ∷ []
     → AnswersNamed told sink sink' result a.now (op_text e) (line_of e.line) console' tally'
@@ -192,7 +192,7 @@ answered_by told sink sink' (Err f) d popped start console console' tally tally'
 
 -- one more entry was answered, where the output had no fault before
 pub answered_entry : {K : Type 0} (told : ToldBySink K) (sink sink' : K) (result : Result Bool SinkFault)
-    (d : Desk) (popped : List Entry) (start : Option (List ℕ)) (console console' : Kept) (tally tally' : Tally) (entry : Entry)
+    (d : Desk) (popped : List Message) (start : Option (List ℕ)) (console console' : Kept) (tally tally' : Tally) (entry : Message)
     (given : Option (List ℕ)) (output output' : Option SinkFault) → IsSaid entry given → output ≡ None → output' ≡ result_err result
     → FromDesk console tally (λ s. AnswersNamed told sink sink' result s (op_text (named_line entry.place entry.number []))
     (meaning_of given) console' tally') → HasAnswered d popped start (told.holds sink) console tally output
@@ -211,13 +211,13 @@ pub none_is : (output : Option SinkFault) → false ≡ is_some output → outpu
 none_is None e = refl
 none_is (Some fault) e = cc
 
-flushed_by : {T : Type 0} (result : Result T SinkFault) (d : Desk) (popped : List Entry) (start h : Option (List ℕ)) (console : Kept)
+flushed_by : {T : Type 0} (result : Result T SinkFault) (d : Desk) (popped : List Message) (start h : Option (List ℕ)) (console : Kept)
     (tally : Tally) → AnsweredAll d popped start h console tally → HasAnswered d popped start h console tally (result_err result)
 flushed_by (Ok x) d popped start h console tally a = a
 flushed_by (Err f) d popped start h console tally a = answered_so_far d popped start h console tally a
 
 -- a flush, where the output had no fault before
-pub answered_flush : {T : Type 0} (result : Result T SinkFault) (d : Desk) (popped : List Entry) (start h h' : Option (List ℕ))
+pub answered_flush : {T : Type 0} (result : Result T SinkFault) (d : Desk) (popped : List Message) (start h h' : Option (List ℕ))
     (console : Kept) (tally : Tally) (output output' : Option SinkFault) → output ≡ None → output' ≡ result_err result → Keeps h h'
     → HasAnswered d popped start h console tally output → HasAnswered d popped start h' console tally output'
 answered_flush result d popped start h h' console tally output output' none is kept so_far =

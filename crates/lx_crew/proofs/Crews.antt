@@ -1,7 +1,7 @@
 -- What a crew came to, by what its operators and its engine did.
 use Rattle.lx_crew.proofs.Imports.{◌≡◌, inl, inr, ℕ, zero, suc, ◌+◌, ◌<◌, ◌≤◌, ◌==◌, true, Option, Some, None, List, [], ◌∷◌}
 use Rattle.lx_crew.proofs.Imports.{◌++◌, length, map, slice_get, refl, sym, ap, ◌∙◌, subst, add-one, arith, AllByRecursion, Appends, slice_get_within}
-use Rattle.lx_crew.proofs.Imports.{filter-append, dec_le, Pass, SinkFault, AppendsFront, crew_session, Desk, Kept, Session, DeskState, StandsFor, Tally, Entry}
+use Rattle.lx_crew.proofs.Imports.{filter-append, dec_le, Pass, SinkFault, AppendsFront, crew_session, Desk, Kept, Session, DeskState, StandsFor, Tally, Message}
 use Rattle.lx_crew.proofs.Imports.{OperatorFault, Operator, View, said, HasAnswered, of_place, is_last, has_last, EachAt, Retired, owned, engine_view, Learned}
 use Rattle.lx_crew.proofs.Imports.{ScriptHasEnded, last_entry, ToldBySink, ToldBySource}
 use Rattle.lx_crew.specs.declared.fault.OperatorFault.TheVariants.{ReadFault, InputTooLong}
@@ -37,7 +37,7 @@ none_at P lines (y ∷ ys) h (suc k) past =
     none_at (λ i. P (suc i)) (λ i z p. lines (suc i) z p) ys (λ i z e. h (suc i) z e) k (omega (arith, past))
 
 -- the lines of the operator at a place
-abbrev pub lines_of : {S : Type 0} (told : ToldBySource S) (Its : Pass Entry View → Type 0) (places : List (Option S))
+abbrev pub lines_of : {S : Type 0} (told : ToldBySource S) (Its : Pass Message View → Type 0) (places : List (Option S))
     (ys : List (Operator S)) → EachAt (Retired told Its places) ys → ℕ → List (List ℕ)
 lines_of told Its places ys h = lines_from (Retired told Its places) (λ k y r. r.sent.lines) ys h
 
@@ -47,14 +47,14 @@ last_ends (Some ReadFault) = refl
 last_ends (Some InputTooLong) = refl
 
 -- Each operator's entries among what was popped are those of its lines.
-sent_at : {S : Type 0} (told : ToldBySource S) (Its : Pass Entry View → Type 0) (places : List (Option S))
-    (ys : List (Operator S)) (popped items : List Entry) (n : ℕ) (h : EachAt (Retired told Its places) ys) → length ys ≡ n
+sent_at : {S : Type 0} (told : ToldBySource S) (Its : Pass Message View → Type 0) (places : List (Option S))
+    (ys : List (Operator S)) (popped items : List Message) (n : ℕ) (h : EachAt (Retired told Its places) ys) → length ys ≡ n
     → Learned (engine_view n popped (map owned ys ++ [])) items → ((k : ℕ) → k < n → has_last (of_place k popped) ≡ true) → (k : ℕ)
     → Dec (n ≤ k) → SentAt (lines_of told Its places ys h) k (of_place k popped)
 sent_at told Its places ys popped items n h len learned ended k (yes past) =
     inr (
       none_front (of_place k popped) (of_place k items)
-          (sym (filter-append (λ (x : Entry). x.place == k) popped items) ∙ learned.others k past),
+          (sym (filter-append (λ (x : Message). x.place == k) popped items) ∙ learned.others k past),
       none_at (Retired told Its places) (λ k y r. r.sent.lines) ys h k (omega (arith, len, past)),
     )
 sent_at told Its places ys popped items n h len learned ended k (no within) =
@@ -70,7 +70,7 @@ sent_at told Its places ys popped items n h len learned ended k (no within) =
     }))
 
 -- The transcript was written, or a prefix of one.
-written : (d : Desk) (lines : ℕ → List (List ℕ)) (popped : List Entry) (held held' : Option (List ℕ)) (console : Kept) (tally : Tally)
+written : (d : Desk) (lines : ℕ → List (List ℕ)) (popped : List Message) (held held' : Option (List ℕ)) (console : Kept) (tally : Tally)
     (output : Option SinkFault) → ((k : ℕ) → SentAt lines k (of_place k popped)) → HasAnswered d popped held held' console tally output
     → HasWrittenTranscript d (by_number lines) held held' console tally output
 written d lines popped held held' console tally None sent a =
@@ -97,7 +97,7 @@ written d lines popped held held' console tally (Some fault) sent a =
     }
 
 -- An operator's source is back, and its lines are these.
-back_at : {S : Type 0} (told_in : ToldBySource S) (Its : Pass Entry View → Type 0) (places places' : List (Option S))
+back_at : {S : Type 0} (told_in : ToldBySource S) (Its : Pass Message View → Type 0) (places places' : List (Option S))
     (told : List (Option OperatorFault)) (ys : List (Operator S)) (h : EachAt (Retired told_in Its places) ys)
     → length ys ≡ length places → EachAt (λ k y. slice_get places' k ≡ Some (Some y.source)) ys
     → EachAt (λ k y. slice_get told k ≡ Some y.fault) ys → (place : ℕ) (start : S) → slice_get places place ≡ Some (Some start)
@@ -119,16 +119,16 @@ back_at told_in Its places places' told ys h len back says place start at =
           (subst (λ ls. ScriptHasEnded told_in r.start y.0.source y.0.fault ls) are r.sent.ended);
     }
 
-no_more : {S : Type 0} (told : ToldBySource S) (Its : Pass Entry View → Type 0) (places : List (Option S))
+no_more : {S : Type 0} (told : ToldBySource S) (Its : Pass Message View → Type 0) (places : List (Option S))
     (ys : List (Operator S)) (h : EachAt (Retired told Its places) ys) → length ys ≡ length places → (operator : ℕ)
     → length places < operator → by_number (lines_of told Its places ys h) operator ≡ []
 no_more told Its places ys h len zero past = refl
 no_more told Its places ys h len (suc k) past =
     none_at (Retired told Its places) (λ k y r. r.sent.lines) ys h k (omega (arith, len, past))
 
-pub crewed : {S K : Type 0} (told_in : ToldBySource S) (told_out : ToldBySink K) (Its : Pass Entry View → Type 0) (d : Desk)
+pub crewed : {S K : Type 0} (told_in : ToldBySource S) (told_out : ToldBySink K) (Its : Pass Message View → Type 0) (d : Desk)
     (places places' : List (Option S)) (sink sink' : K) (console : Kept) (tally : Tally) (output : Option SinkFault)
-    (told : List (Option OperatorFault)) (ys : List (Operator S)) (popped items : List Entry) (n : ℕ)
+    (told : List (Option OperatorFault)) (ys : List (Operator S)) (popped items : List Message) (n : ℕ)
     → EachAt (Retired told_in Its places) ys → length ys ≡ n → n ≡ length places → Learned
     (engine_view n popped (map owned ys ++ [])) items
     → ((k : ℕ) → k < n → has_last (of_place k popped) ≡ true) → length places' ≡ length places

@@ -15,7 +15,7 @@ pub use Rattle.lx_crew.specs.OperatorWorks.{HasRunOperator, HasSentNothing, Hire
 pub use Rattle.lx_crew.specs.Rule.{AddsEntry, engine_view, FitsEngine, FitsOperator, FitsPass, KeepsOrder, Learned, operator_view, spent_view, Takes}
 pub use Rattle.lx_crew.specs.Scripts.{AreLines, ScriptHasEnded}
 pub use Rattle.lx_crew.specs.SentLines.{follows, HasSentLines, last_entry, TookNext}
-pub use Rattle.lx_crew.specs.declared.entry.Entry.{Entry}
+pub use Rattle.lx_crew.specs.declared.entry.Message.{Message}
 pub use Rattle.lx_crew.specs.declared.entry.Sent.{Sent}
 pub use Rattle.lx_crew.specs.declared.entry.Sent.TheVariants.{End, InputTooLong, Line, LongLine, ReadFault}
 pub use Rattle.lx_crew.specs.declared.fault.OperatorFault.{OperatorFault}

@@ -2,7 +2,7 @@
 use Rattle.lx_crew.proofs.Imports.{◌≡◌, ℕ, zero, suc, ◌+◌, ◌-◌, ◌==◌, Bool, true, false, cond, List, [], ◌∷◌, ◌++◌, take, drop}
 use Rattle.lx_crew.proofs.Imports.{refl, sym, ap, ◌∙◌, ◌⊎◌, ⊎_elim, Option, None, true≢false, add-one, subst, eq-eqb, get_or, arith, IfSome}
 use Rattle.lx_crew.proofs.Imports.{AllByRecursion, filter-append, CrewEntry, op_text, after_entry, crew_answering, crew_session, CrewAllows, Desk, line_of}
-use Rattle.lx_crew.proofs.Imports.{Session, begin_at, with_text, after_each, AreAllowed, DeskState, begun, after_meaning, IsAcceptedEdit, meaning_is, Entry}
+use Rattle.lx_crew.proofs.Imports.{Session, begin_at, with_text, after_each, AreAllowed, DeskState, begun, after_meaning, IsAcceptedEdit, meaning_is, Message}
 use Rattle.lx_crew.proofs.Imports.{Sent, Line, LongLine, End, ReadFault, InputTooLong, long_line, named_line, entries_of, said, of_place, is_last, HasText}
 use Rattle.lx_crew.proofs.Imports.{HaveLines, of_operator, numbered_from, Merged, MergedSoFar, length-replicate, LINE_BYTES}
 use Rattle.std.proofs.lemmas.Bool.Decides.{nat_tests}
@@ -25,12 +25,12 @@ true_by lines place number ReadFault = []
 true_by lines place number InputTooLong = []
 
 -- the entries of the transcript, each with its own text
-abbrev pub true_entries : (ℕ → List (List ℕ)) → List Entry → List CrewEntry
+abbrev pub true_entries : (ℕ → List (List ℕ)) → List Message → List CrewEntry
 true_entries lines [] = []
 true_entries lines (e ∷ es) = true_by lines e.place e.number e.sent ++ true_entries lines es
 
 -- an entry has its own text, or is a last one
-abbrev pub IsTrueTo : (ℕ → List (List ℕ)) → Entry → Type 0
+abbrev pub IsTrueTo : (ℕ → List (List ℕ)) → Message → Type 0
 IsTrueTo lines e = is_last e.sent ≡ false → HasText e.sent (line_at lines e.place e.number)
 
 -- Entries of the same names, whose lines have the same meaning.
@@ -83,27 +83,27 @@ alike_by lines place number End rest rest' t alike = alike
 alike_by lines place number ReadFault rest rest' t alike = alike
 alike_by lines place number InputTooLong rest rest' t alike = alike
 
-alike_said : (lines : ℕ → List (List ℕ)) (es : List Entry) → AllByRecursion (IsTrueTo lines) es → Alike (said es) (true_entries lines es)
+alike_said : (lines : ℕ → List (List ℕ)) (es : List Message) → AllByRecursion (IsTrueTo lines) es → Alike (said es) (true_entries lines es)
 alike_said lines [] all = tt
 alike_said lines (e ∷ es) all =
     alike_by lines e.place e.number e.sent (said es) (true_entries lines es) all.0 (alike_said lines es all.1)
 
-pub same_session : (lines : ℕ → List (List ℕ)) (failures : List (Option ℕ)) (es : List Entry) (d : Desk)
+pub same_session : (lines : ℕ → List (List ℕ)) (failures : List (Option ℕ)) (es : List Message) (d : Desk)
     → AllByRecursion (IsTrueTo lines) es → crew_session d (said es) failures ≡ crew_session d (true_entries lines es) failures
 same_session lines failures es d all =
     session_alike failures (begin_at (begun d)) (said es) (true_entries lines es) (alike_said lines es all)
 
-pub same_allows : (lines : ℕ → List (List ℕ)) (failures : List (Option ℕ)) (es : List Entry) (d : Desk)
+pub same_allows : (lines : ℕ → List (List ℕ)) (failures : List (Option ℕ)) (es : List Message) (d : Desk)
     → AllByRecursion (IsTrueTo lines) es → CrewAllows d (said es) failures → CrewAllows d (true_entries lines es) failures
 same_allows lines failures es d all a =
     allows_alike failures (begin_at (begun d)) (said es) (true_entries lines es) (alike_said lines es all) a
 
 -- What holds of each operator's entries holds of all.
-behind : (P : Entry → Type 0) (e : Entry) (rest : List Entry) (b : Bool) → AllByRecursion P (cond b (e ∷ rest) rest) → AllByRecursion P rest
+behind : (P : Message → Type 0) (e : Message) (rest : List Message) (b : Bool) → AllByRecursion P (cond b (e ∷ rest) rest) → AllByRecursion P rest
 behind P e rest true h = h.1
 behind P e rest false h = h
 
-pub all_of_all : (P : Entry → Type 0) (es : List Entry) → ((place : ℕ) → AllByRecursion P (of_place place es)) → AllByRecursion P es
+pub all_of_all : (P : Message → Type 0) (es : List Message) → ((place : ℕ) → AllByRecursion P (of_place place es)) → AllByRecursion P es
 all_of_all P [] h = tt
 all_of_all P (e ∷ es) h =
     let here : AllByRecursion P (cond (e.place == e.place) (e ∷ of_place e.place es) (of_place e.place es)) = h e.place in
@@ -111,7 +111,7 @@ all_of_all P (e ∷ es) h =
     (mine.0, all_of_all P es (λ place. behind P e (of_place place es) (e.place == place) (h place)))
 
 -- An operator's entries of the transcript are those of its place.
-true_sent : (lines : ℕ → List (List ℕ)) (k place number : ℕ) (sent : Sent) (rest : List CrewEntry) (more : List Entry) → place ≡ k
+true_sent : (lines : ℕ → List (List ℕ)) (k place number : ℕ) (sent : Sent) (rest : List CrewEntry) (more : List Message) → place ≡ k
     → of_operator (k + 1) rest ≡ true_entries lines more
     → of_operator (k + 1) (true_by lines place number sent ++ rest) ≡ true_by lines place number sent ++ true_entries lines more
 true_sent lines k place number (Line l) rest more own h =
@@ -134,7 +134,7 @@ true_other lines k place number End rest other = refl
 true_other lines k place number ReadFault rest other = refl
 true_other lines k place number InputTooLong rest other = refl
 
-true_here : (lines : ℕ → List (List ℕ)) (k place number : ℕ) (sent : Sent) (rest : List CrewEntry) (more : List Entry) (e : Entry)
+true_here : (lines : ℕ → List (List ℕ)) (k place number : ℕ) (sent : Sent) (rest : List CrewEntry) (more : List Message) (e : Message)
     → e.place ≡ place → e.number ≡ number → e.sent ≡ sent → of_operator (k + 1) rest ≡ true_entries lines more → (b : Bool) →
     (place == k) ≡ b
     → of_operator (k + 1) (true_by lines place number sent ++ rest) ≡ true_entries lines (cond b (e ∷ more) more)
@@ -145,7 +145,7 @@ true_here lines k place number sent rest more e own num is h true b =
     (sym (λ i. (own i, (num i, is i))))
 true_here lines k place number sent rest more e own num is h false b = true_other lines k place number sent rest b ∙ h
 
-pub operator_true : (lines : ℕ → List (List ℕ)) (k : ℕ) (es : List Entry)
+pub operator_true : (lines : ℕ → List (List ℕ)) (k : ℕ) (es : List Message)
     → of_operator (k + 1) (true_entries lines es) ≡ true_entries lines (of_place k es)
 operator_true lines k [] = refl
 operator_true lines k (e ∷ es) =
@@ -184,7 +184,7 @@ one_true lines k m place number End l own num text is rest = absurd text
 one_true lines k m place number ReadFault l own num text is rest = absurd text
 one_true lines k m place number InputTooLong l own num text is rest = absurd text
 
-pub true_lines : (lines : ℕ → List (List ℕ)) (k m : ℕ) (es : List Entry) (ls : List (List ℕ)) → HaveLines k (m + 1) es ls
+pub true_lines : (lines : ℕ → List (List ℕ)) (k m : ℕ) (es : List Message) (ls : List (List ℕ)) → HaveLines k (m + 1) es ls
     → drop m (lines k) ≡ ls → true_entries lines es ≡ numbered_from (k + 1) (m + 1) ls
 true_lines lines k m [] [] h is = refl
 true_lines lines k m [] (l ∷ ls) h is = absurd h
@@ -195,7 +195,7 @@ true_lines lines k m (e ∷ es) (l ∷ ls) h is =
     ∙ ap (λ (x : List CrewEntry). named_line k (m + 1) l ∷ x) (true_lines lines k (m + 1) es ls h.1.1.1 a.1)
 
 -- each entry of an operator has its own text
-true_to : (lines : ℕ → List (List ℕ)) (k m : ℕ) (es : List Entry) (ls : List (List ℕ)) → HaveLines k (m + 1) es ls → drop m (lines k) ≡ ls
+true_to : (lines : ℕ → List (List ℕ)) (k m : ℕ) (es : List Message) (ls : List (List ℕ)) → HaveLines k (m + 1) es ls → drop m (lines k) ≡ ls
     → AllByRecursion (IsTrueTo lines) es
 true_to lines k m [] [] h is = tt
 true_to lines k m [] (l ∷ ls) h is = absurd h
@@ -207,15 +207,15 @@ true_to lines k m (e ∷ es) (l ∷ ls) h is =
     )
 
 -- The entries of the operator at a place are those of all its lines, and then its last, which has none.
-pub record AllSent (k : ℕ) (es : List Entry) (ls : List (List ℕ)) : Type 0 where
-  pub front : List Entry
-  pub last : Entry
+pub record AllSent (k : ℕ) (es : List Message) (ls : List (List ℕ)) : Type 0 where
+  pub front : List Message
+  pub last : Message
   pub are : es ≡ front ++ last ∷ []
   pub have : HaveLines k 1 front ls
   pub ends : is_last last.sent ≡ true
 
 -- or it has no entries and no lines
-abbrev pub SentAt : (ℕ → List (List ℕ)) → ℕ → List Entry → Type 0
+abbrev pub SentAt : (ℕ → List (List ℕ)) → ℕ → List Message → Type 0
 SentAt lines k es = AllSent k es (lines k) ⊎ ((es ≡ []) × (lines k ≡ []))
 
 no_line : {A : Type 0} (sent : Sent) → is_last sent ≡ true → is_last sent ≡ false → A
@@ -228,31 +228,31 @@ true_last lines place number End is = refl
 true_last lines place number ReadFault is = refl
 true_last lines place number InputTooLong is = refl
 
-true_snoc : (lines : ℕ → List (List ℕ)) (es : List Entry) (last : Entry) → is_last last.sent ≡ true
+true_snoc : (lines : ℕ → List (List ℕ)) (es : List Message) (last : Message) → is_last last.sent ≡ true
     → true_entries lines (es ++ last ∷ []) ≡ true_entries lines es
 true_snoc lines [] last end = ap (λ (u : List CrewEntry). u ++ []) (true_last lines last.place last.number last.sent end)
 true_snoc lines (e ∷ es) last end = ap (λ (u : List CrewEntry). true_by lines e.place e.number e.sent ++ u) (true_snoc lines es last end)
 
-all_snoc : (P : Entry → Type 0) (es : List Entry) (e : Entry) → AllByRecursion P es → P e → AllByRecursion P (es ++ e ∷ [])
+all_snoc : (P : Message → Type 0) (es : List Message) (e : Message) → AllByRecursion P es → P e → AllByRecursion P (es ++ e ∷ [])
 all_snoc P [] e all one = (one, tt)
 all_snoc P (x ∷ es) e all one = (all.0, all_snoc P es e all.1 one)
 
-pub all_front : (P : Entry → Type 0) (es rest : List Entry) → AllByRecursion P (es ++ rest) → AllByRecursion P es
+pub all_front : (P : Message → Type 0) (es rest : List Message) → AllByRecursion P (es ++ rest) → AllByRecursion P es
 all_front P [] rest all = tt
 all_front P (e ∷ es) rest all = (all.0, all_front P es rest all.1)
 
-true_at : (lines : ℕ → List (List ℕ)) (k : ℕ) (es : List Entry) → SentAt lines k es → AllByRecursion (IsTrueTo lines) es
+true_at : (lines : ℕ → List (List ℕ)) (k : ℕ) (es : List Message) → SentAt lines k es → AllByRecursion (IsTrueTo lines) es
 true_at lines k es s =
     ⊎_elim (λ (a : AllSent k es (lines k)). subst (AllByRecursion (IsTrueTo lines)) (sym a.are)
     (all_snoc (IsTrueTo lines) a.front a.last (true_to lines k 0 a.front (lines k) a.have refl) (λ line. no_line a.last.sent a.ends line)))
     (λ (n : (es ≡ []) × (lines k ≡ [])). subst (AllByRecursion (IsTrueTo lines)) (sym n.0) tt) s
 
-pub all_true : (lines : ℕ → List (List ℕ)) (es : List Entry) → ((k : ℕ) → SentAt lines k (of_place k es))
+pub all_true : (lines : ℕ → List (List ℕ)) (es : List Message) → ((k : ℕ) → SentAt lines k (of_place k es))
     → AllByRecursion (IsTrueTo lines) es
 all_true lines es sent = all_of_all (IsTrueTo lines) es (λ k. true_at lines k (of_place k es) (sent k))
 
 -- All entries of an operator stand for all its lines.
-whole_at : (lines : ℕ → List (List ℕ)) (k : ℕ) (es : List Entry) → SentAt lines k es
+whole_at : (lines : ℕ → List (List ℕ)) (k : ℕ) (es : List Message) → SentAt lines k es
     → true_entries lines es ≡ numbered_from (k + 1) 1 (lines k)
 whole_at lines k es s =
     ⊎_elim (λ (a : AllSent k es (lines k)). ap (true_entries lines) a.are
@@ -260,7 +260,7 @@ whole_at lines k es s =
     (λ (n : (es ≡ []) × (lines k ≡ [])). ap (true_entries lines) n.0 ∙ ap (numbered_from (k + 1) 1) (sym n.1)) s
 
 -- Its first entries stand for its first lines.
-first_lines : (lines : ℕ → List (List ℕ)) (k m : ℕ) (es : List Entry) (ls : List (List ℕ)) (last : Entry) (xs ys : List Entry)
+first_lines : (lines : ℕ → List (List ℕ)) (k m : ℕ) (es : List Message) (ls : List (List ℕ)) (last : Message) (xs ys : List Message)
     → HaveLines k (m + 1) es ls → drop m (lines k) ≡ ls → is_last last.sent ≡ true → xs ++ ys ≡ es ++ last ∷ []
     → (n : ℕ) × (true_entries lines xs ≡ numbered_from (k + 1) (m + 1) (take n ls))
 first_lines lines k m es ls last [] ys h is end e = (0, refl)
@@ -268,7 +268,7 @@ first_lines lines k m [] [] last (x ∷ xs) ys h is end e =
     let same : x ≡ last = cc in
     let none : xs ≡ [] = none_front xs ys (ap tail_of e) in (
       0,
-      ap (λ (z : Entry). true_by lines z.place z.number z.sent ++ true_entries lines xs) same
+      ap (λ (z : Message). true_by lines z.place z.number z.sent ++ true_entries lines xs) same
           ∙ (ap (λ zs. true_by lines last.place last.number last.sent ++ true_entries lines zs) none
           ∙ ap (λ (u : List CrewEntry). u ++ []) (true_last lines last.place last.number last.sent end)),
     )
@@ -279,12 +279,12 @@ first_lines lines k m (e ∷ es) (l ∷ ls) last (x ∷ xs) ys h is end e' =
     let same : x ≡ e = cc in
     let r = first_lines lines k (m + 1) es ls last xs ys h.1.1.1 a.1 end (ap tail_of e') in (
       suc r.0,
-      ap (λ (z : Entry). true_by lines z.place z.number z.sent ++ true_entries lines xs) same
+      ap (λ (z : Message). true_by lines z.place z.number z.sent ++ true_entries lines xs) same
           ∙ (one_true lines k m e.place e.number e.sent l h.0 h.1.0 h.1.1.0 a.0 (true_entries lines xs)
           ∙ ap (λ (u : List CrewEntry). named_line k (m + 1) l ∷ u) r.1),
     )
 
-first_at : (lines : ℕ → List (List ℕ)) (k : ℕ) (es xs ys : List Entry) → SentAt lines k es → es ≡ xs ++ ys
+first_at : (lines : ℕ → List (List ℕ)) (k : ℕ) (es xs ys : List Message) → SentAt lines k es → es ≡ xs ++ ys
     → (n : ℕ) × (true_entries lines xs ≡ numbered_from (k + 1) 1 (take n (lines k)))
 first_at lines k es xs ys s are =
     ⊎_elim (λ (a : AllSent k es (lines k)). first_lines lines k 0 a.front (lines k) a.last xs ys a.have refl a.ends (sym are ∙ a.are))
@@ -306,24 +306,24 @@ none_by lines place number End rest = refl
 none_by lines place number ReadFault rest = refl
 none_by lines place number InputTooLong rest = refl
 
-none_of_0 : (lines : ℕ → List (List ℕ)) (es : List Entry) → of_operator 0 (true_entries lines es) ≡ []
+none_of_0 : (lines : ℕ → List (List ℕ)) (es : List Message) → of_operator 0 (true_entries lines es) ≡ []
 none_of_0 lines [] = refl
 none_of_0 lines (e ∷ es) = none_by lines e.place e.number e.sent (true_entries lines es) ∙ none_of_0 lines es
 
-pub merged : (lines : ℕ → List (List ℕ)) (es : List Entry) → ((k : ℕ) → SentAt lines k (of_place k es))
+pub merged : (lines : ℕ → List (List ℕ)) (es : List Message) → ((k : ℕ) → SentAt lines k (of_place k es))
     → Merged (by_number lines) (true_entries lines es)
 merged lines es sent zero = none_of_0 lines es
 merged lines es sent (suc k) =
     subst (λ o. of_operator o (true_entries lines es) ≡ numbered_from o 1 (lines k)) (add-one k)
     (operator_true lines k es ∙ whole_at lines k (of_place k es) (sent k))
 
-pub merged_so_far : (lines : ℕ → List (List ℕ)) (es first rest : List Entry) → ((k : ℕ) → SentAt lines k (of_place k es))
+pub merged_so_far : (lines : ℕ → List (List ℕ)) (es first rest : List Message) → ((k : ℕ) → SentAt lines k (of_place k es))
     → es ≡ first ++ rest
     → MergedSoFar (by_number lines) (true_entries lines first)
 merged_so_far lines es first rest sent are zero = (0, none_of_0 lines first)
 merged_so_far lines es first rest sent are (suc k) =
     let split : of_place k es ≡ of_place k first ++ of_place k rest =
-    ap (of_place k) are ∙ filter-append (λ (x : Entry). x.place == k) first rest in
+    ap (of_place k) are ∙ filter-append (λ (x : Message). x.place == k) first rest in
     let r = first_at lines k (of_place k es) (of_place k first) (of_place k rest) (sent k) split in (
       r.0,
       subst (λ o. of_operator o (true_entries lines first) ≡ numbered_from o 1 (take r.0 (lines k))) (add-one k)

@@ -1,7 +1,7 @@
 -- Each step keeps the rule.
 use Rattle.lx_crew.proofs.Imports.{◌≡◌, ◌≢◌, ℕ, zero, suc, ◌+◌, ◌<◌, ◌≤◌, ◌==◌, true, false, true≢false, cond, List, []}
 use Rattle.lx_crew.proofs.Imports.{◌∷◌, ◌++◌, length, set, sym, refl, ap, ◌∙◌, subst, inl, inr, ⊎_elim, ◌⊎◌, append_assoc, eq-eqb}
-use Rattle.lx_crew.proofs.Imports.{ne_eqb, arith, ℕ_discrete, dec_le, Entry, View, of_place, Numbered, KeepsOrder, FitsPass, FitsOperator, FitsEngine}
+use Rattle.lx_crew.proofs.Imports.{ne_eqb, arith, ℕ_discrete, dec_le, Message, View, of_place, Numbered, KeepsOrder, FitsPass, FitsOperator, FitsEngine}
 use Rattle.lx_crew.proofs.Imports.{AddsEntry, Takes, Learned, engine_view, operator_view, spent_view}
 use mathlib.Core.Option.{some, some-ne-none, some-injective}
 use lib.ListN.{get_elem?}
@@ -54,7 +54,7 @@ begins = record {
 }
 
 -- an operator that isn't e's keeps its list
-kept_by : (reader : ℕ) (seat : ℕ → ℕ) (popped log : List Entry) (pass : ℕ) (e : Entry) (j : ℕ) (u : View) → seat e.place ≡ pass + 1
+kept_by : (reader : ℕ) (seat : ℕ → ℕ) (popped log : List Message) (pass : ℕ) (e : Message) (j : ℕ) (u : View) → seat e.place ≡ pass + 1
     → FitsEngine reader seat popped log j u → FitsEngine reader seat popped (log ++ e ∷ []) j u
 kept_by reader seat popped log pass e j u mine f =
     let free : (k : ℕ) → seat k ≡ 0 → e.place ≢ k = λ k none is. absurd
@@ -65,32 +65,32 @@ kept_by reader seat popped log pass e j u mine f =
       lists = all_map _ _ u.kept (λ p h. (h.0, h.1, h.2 ∙ sym (of_other p.0 log e (free p.0 h.1)))) f.lists;
     }
 
-numbered_on : (log : List Entry) (e : Entry) (k : ℕ) → Numbered 1 (of_place k log) → (e.place ≡ k → e.number ≡ 1 + length (of_place k log))
+numbered_on : (log : List Message) (e : Message) (k : ℕ) → Numbered 1 (of_place k log) → (e.place ≡ k → e.number ≡ 1 + length (of_place k log))
     → Dec (e.place ≡ k) → Numbered 1 (of_place k (log ++ e ∷ []))
-numbered_on log e k h next (yes is) = subst (λ (es : List Entry). Numbered 1 es) (sym (of_mine k log e is))
+numbered_on log e k h next (yes is) = subst (λ (es : List Message). Numbered 1 es) (sym (of_mine k log e is))
     (numbered_snoc 1 (of_place k log) e h (next is))
-numbered_on log e k h next (no not) = subst (λ (es : List Entry). Numbered 1 es) (sym (of_other k log e not)) h
+numbered_on log e k h next (no not) = subst (λ (es : List Message). Numbered 1 es) (sym (of_other k log e not)) h
 
-pub sends : (n pass : ℕ) (v : View) (e : Entry) → v.pushes ≡ true → e.place ≡ v.place → e.number ≡ length v.pushed + 1
+pub sends : (n pass : ℕ) (v : View) (e : Message) → v.pushes ≡ true → e.place ≡ v.place → e.number ≡ length v.pushed + 1
     → Pushes KeepsOrder n pass v e (AddsEntry v e)
 sends n pass v e may own next items views room h at =
     let w : View = record v { pushed = v.pushed ++ e ∷ [] } in
     let mine = (h.each pass v at).operator may in
     let sits : h.seat e.place ≡ pass + 1 = ap h.seat own ∙ mine.0 in
-    let log : List Entry = h.log ++ e ∷ [] in (
+    let log : List Message = h.log ++ e ∷ [] in (
       w,
       record {
         reader = h.reader;
         seat = h.seat;
         popped = h.popped;
         log = log;
-        in_order = ap (λ (l : List Entry). l ++ e ∷ []) h.in_order ∙ append_assoc h.popped items (e ∷ []);
+        in_order = ap (λ (l : List Message). l ++ e ∷ []) h.in_order ∙ append_assoc h.popped items (e ∷ []);
         numbered = λ k. numbered_on h.log e k (h.numbered k)
             (λ is. let t : v.pushed ≡ of_place k h.log = mine.1 ∙ ap (λ (i : ℕ). of_place i h.log) (sym own ∙ is) in
             let l : length v.pushed ≡ length (of_place k h.log) = ap length t in omega (arith, next, l)) (ℕ_discrete e.place k);
         each = all_set (FitsPass h.reader h.seat h.popped log) views pass w
             (record {
-              operator = λ p. (mine.0, ap (λ (l : List Entry). l ++ e ∷ []) mine.1 ∙ sym (of_mine v.place h.log e own));
+              operator = λ p. (mine.0, ap (λ (l : List Message). l ++ e ∷ []) mine.1 ∙ sym (of_mine v.place h.log e own));
               engine = λ p. let f = (h.each pass v at).engine p in kept_by h.reader h.seat h.popped h.log pass e pass w sits
                   (record { reads = f.reads; got = f.got; later = f.later; lists = f.lists });
             })
@@ -111,7 +111,7 @@ pub takes : (pass : ℕ) (v : View) → v.pops ≡ true → Pops KeepsOrder pass
 takes pass v may x items views h at =
     let w : View = record v { popped = v.popped ++ x ∷ [] } in
     let mine = (h.each pass v at).engine may in
-    let popped : List Entry = h.popped ++ x ∷ [] in (
+    let popped : List Message = h.popped ++ x ∷ [] in (
       w,
       record {
         reader = h.reader;
@@ -125,7 +125,7 @@ takes pass v may x items views h at =
               operator = λ p. (h.each pass v at).operator p;
               engine = λ p. record {
                 reads = mine.reads;
-                got = ap (λ (l : List Entry). l ++ x ∷ []) mine.got;
+                got = ap (λ (l : List Message). l ++ x ∷ []) mine.got;
                 later = mine.later;
                 lists = mine.lists;
               };
@@ -245,8 +245,8 @@ merges pass v other u may none sent items views h at apart at' =
 pub totals : (pass : ℕ) (v : View) → v.pops ≡ true → Learns KeepsOrder pass v (Learned v)
 totals pass v may items views h at =
     let mine = (h.each pass v at).engine may in
-    let all : h.log ≡ v.popped ++ items = h.in_order ∙ ap (λ (l : List Entry). l ++ items) (sym mine.got) in
+    let all : h.log ≡ v.popped ++ items = h.in_order ∙ ap (λ (l : List Message). l ++ items) (sym mine.got) in
     record {
-      lists = all_map _ _ v.kept (λ p q. q.2 ∙ ap (λ (l : List Entry). of_place p.0 l) all) mine.lists;
-      others = λ k h. ap (λ (l : List Entry). of_place k l) (sym all) ∙ (mine.later k h).1;
+      lists = all_map _ _ v.kept (λ p q. q.2 ∙ ap (λ (l : List Message). of_place p.0 l) all) mine.lists;
+      others = λ k h. ap (λ (l : List Message). of_place k l) (sym all) ∙ (mine.later k h).1;
     }

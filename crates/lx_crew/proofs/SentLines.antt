@@ -2,7 +2,7 @@
 use Rattle.lx_crew.proofs.Imports.{◌≡◌, ◌≢◌, inl, inr, ℕ, suc, ◌+◌, ◌≤◌, ◌<◌, Bool, true, false, cond, Option, Some, None, IfSome}
 use Rattle.lx_crew.proofs.Imports.{IsTrue, List, [], ◌∷◌, ◌++◌, map, length, take, take_all, refl, sym, ap, ◌∙◌, subst, append-nil, arith}
 use Rattle.lx_crew.proofs.Imports.{IsAtEnd, take-append_seam, take-append-add, map-append, length-map, INPUT_BYTES, Rose, handed_none, handed_then, ends_script}
-use Rattle.lx_crew.proofs.Imports.{lines_wanted, bytes_wanted, is_quit, meaning_is, Entry, Sent, Line, LongLine, End, ReadFault, InputTooLong, OperatorFault}
+use Rattle.lx_crew.proofs.Imports.{lines_wanted, bytes_wanted, is_quit, meaning_is, Message, Sent, Line, LongLine, End, ReadFault, InputTooLong, OperatorFault}
 use Rattle.lx_crew.proofs.Imports.{View, HasText, HaveLines, text_in, operator_view, AreLines, ScriptHasEnded, TookNext, follows, last_entry, HasSentLines}
 use Rattle.lx_crew.proofs.Imports.{ToldBySource}
 use Rattle.lx_lex.specs.declared.lines.Lines.{Lines}
@@ -89,13 +89,13 @@ ends_so told b c InputTooLong fault t is =
     let same : Some ends.InputTooLong ≡ fault = cc in subst (λ f. same_last told b c InputTooLong f) same (refl, t)
 
 -- Entries and their lines.
-pub have_length : (place n : ℕ) (es : List Entry) (ls : List (List ℕ)) → HaveLines place n es ls → length es ≡ length ls
+pub have_length : (place n : ℕ) (es : List Message) (ls : List (List ℕ)) → HaveLines place n es ls → length es ≡ length ls
 have_length place n [] [] h = refl
 have_length place n [] (l ∷ ls) h = absurd h
 have_length place n (e ∷ es) [] h = absurd h
 have_length place n (e ∷ es) (l ∷ ls) h = ap suc (have_length place (n + 1) es ls h.1.1.1)
 
-pub have_more : (place n : ℕ) (es : List Entry) (ls : List (List ℕ)) (e : Entry) (l : List ℕ) → HaveLines place n es ls → e.place ≡ place
+pub have_more : (place n : ℕ) (es : List Message) (ls : List (List ℕ)) (e : Message) (l : List ℕ) → HaveLines place n es ls → e.place ≡ place
     → e.number ≡ n + length ls → HasText e.sent l → HaveLines place n (es ++ e ∷ []) (ls ++ l ∷ [])
 have_more place n [] [] e l h own is text = (own, (omega (arith, is), (text, tt)))
 have_more place n [] (k ∷ ls) e l h own is text = absurd h
@@ -106,7 +106,7 @@ have_more place n (x ∷ es) (k ∷ ls) e l h own is text =
 -- This many lines were handed out from a to b and sent.
 pub record SentSoFar {S : Type 0} (told : ToldBySource S) (place : ℕ) (a b : Lines S) (v : View) : Type 0 where
   pub passed : Passed told a b
-  pub entries : List Entry
+  pub entries : List Message
   pub view : v ≡ operator_view place entries
   pub have : HaveLines place 1 entries (map without_cr passed.raws)
 
@@ -129,12 +129,12 @@ next_number told place a b v s none =
     let p : length v.pushed ≡ length s.entries = ap (λ (w : View). length w.pushed) s.view in
     omega (arith, l, m, n, none, p)
 
-pub pushed_on : (v w : View) (place : ℕ) (es : List Entry) (e : Entry) → v ≡ operator_view place es
+pub pushed_on : (v w : View) (place : ℕ) (es : List Message) (e : Message) → v ≡ operator_view place es
     → w ≡ record v { pushed = v.pushed ++ e ∷ [] } → w ≡ operator_view place (es ++ e ∷ [])
 pushed_on v w place es e h i = i ∙ ap (λ (u : View). record u { pushed = u.pushed ++ e ∷ [] }) h
 
 -- one more
-pub sent_more : {S : Type 0} (told : ToldBySource S) (place : ℕ) (a b c : Lines S) (v w : View) (e : Entry)
+pub sent_more : {S : Type 0} (told : ToldBySource S) (place : ℕ) (a b c : Lines S) (v w : View) (e : Message)
     → SentSoFar told place a b v → SentLine told b c e.sent → e.place ≡ place → e.number ≡ length v.pushed + 1
     → w ≡ record v { pushed = v.pushed ++ e ∷ [] } → SentSoFar told place a c w
 sent_more told place a b c v w e s t own is more =
@@ -276,7 +276,7 @@ ended_so told source a b c fault began s later t = record {
 
 -- All was sent.
 pub sent_all : {S : Type 0} (told : ToldBySource S) (place : ℕ) (source : S) (a b c : Lines S) (v w : View)
-    (e : Entry) (fault : Option OperatorFault) → Began told source a → (s : SentSoFar told place a b v)
+    (e : Message) (fault : Option OperatorFault) → Began told source a → (s : SentSoFar told place a b v)
     → told.faults b.source.now ≤ told.faults c.source.now → (e.sent ≡ last_entry fault) × TookLast told b c fault → e.place ≡ place
     → w ≡ record v { pushed = v.pushed ++ e ∷ [] } → HasSentLines told place source c.source.now w fault
 sent_all told place source a b c v w e fault began s later t own more = record {
@@ -291,7 +291,7 @@ sent_all told place source a b c v w e fault began s later t own more = record {
 }
 
 pub sent_to_quit : {S : Type 0} (told : ToldBySource S) (place : ℕ) (source : S) (a b c : Lines S) (v w x : View)
-    (e last : Entry) → Began told source a → SentSoFar told place a b v → SentQuit told b c e.sent → e.place ≡ place
+    (e last : Message) → Began told source a → SentSoFar told place a b v → SentQuit told b c e.sent → e.place ≡ place
     → e.number ≡ length v.pushed + 1 → w ≡ record v { pushed = v.pushed ++ e ∷ [] } → last.sent ≡ End → last.place ≡ place
     → x ≡ record w { pushed = w.pushed ++ last ∷ [] } → HasSentLines told place source c.source.now x None
 sent_to_quit told place source a b c v w x e last began s q own is more end own' more' =

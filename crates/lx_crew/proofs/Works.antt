@@ -2,7 +2,7 @@
 use Rattle.lx_crew.proofs.Imports.{true≢false, ◌==◌, true, false, ◌≡◌, ◌≢◌, ℕ, zero, suc, ◌+◌, ◌<◌, ◌≤◌, List, [], ◌∷◌}
 use Rattle.lx_crew.proofs.Imports.{◌++◌, length, map, set, get_or, slice_get, Option, Some, None, IsSome, sym, refl, ap, ◌∙◌, subst, inl, inr}
 use Rattle.lx_crew.proofs.Imports.{⊎_elim, ◌⊎◌, take, drop, drop_of_length-le, append-nil, arith, AllByRecursion, AllZip, All, ℕ_discrete}
-use Rattle.lx_crew.proofs.Imports.{slice_get_read, slice_get-get_or, AllZip-long, take-length, Entry, View, Operator, of_place, is_last, has_last, HasText}
+use Rattle.lx_crew.proofs.Imports.{slice_get_read, slice_get-get_or, AllZip-long, take-length, Message, View, Operator, of_place, is_last, has_last, HasText}
 use Rattle.lx_crew.proofs.Imports.{HaveLines, Sent, Line, LongLine, End, ReadFault, InputTooLong, engine_view, operator_view, HasSentLines, EachAt}
 use Rattle.lx_crew.proofs.Imports.{HasRunOperator, Hired, HasSentNothing, Works, Retired, owned, filter-append, view, Pass, IsSamePass, ToldBySource}
 use Rattle.lx_crew.proofs.Lists.{or_none, none_behind, tail_of, head_last}
@@ -112,8 +112,8 @@ get_at [] k lt = absurd (omega (arith, lt))
 get_at (x ∷ xs) zero lt = (x, refl)
 get_at (x ∷ xs) (suc k) lt = get_at xs k (omega (arith, lt))
 
-pub retired : {S : Type 0} (told : ToldBySource S) (Its : Pass Entry View → Type 0)
-    (carry : (p q : Pass Entry View) → IsSamePass p q → Its p → Its q)
+pub retired : {S : Type 0} (told : ToldBySource S) (Its : Pass Message View → Type 0)
+    (carry : (p q : Pass Message View) → IsSamePass p q → Its p → Its q)
     (places : List (Option S)) (xs ys : List (Operator S)) → AllZip (HasRunOperator told) xs ys → EachAt (Hired Its places) xs → EachAt
     (Retired told Its places) ys
 retired told Its carry places xs ys z h = each_zip (HasRunOperator told) (Hired Its places) (Retired told Its places) xs ys z h
@@ -124,7 +124,7 @@ retired told Its carry places xs ys z h = each_zip (HasRunOperator told) (Hired 
       sent = subst (λ (n : ℕ). HasSentLines told n x.source y.source (view y.pass) y.fault) p.place r.1;
     })
 
-pub retired_works : {S : Type 0} (told : ToldBySource S) (Its : Pass Entry View → Type 0) (places : List (Option S)) (ys : List (Operator S))
+pub retired_works : {S : Type 0} (told : ToldBySource S) (Its : Pass Message View → Type 0) (places : List (Option S)) (ys : List (Operator S))
     → EachAt (Retired told Its places) ys → EachAt (Works Its) ys
 retired_works told Its places ys h k y is = let r = h k y is in (r.its, ap (λ (v : View). v.pushes) r.sent.view)
 
@@ -136,7 +136,7 @@ text_not_last ReadFault text h = absurd h
 text_not_last InputTooLong text h = absurd h
 
 -- behind the last entry of an operator nothing comes
-pub whole : (place n : ℕ) (es : List Entry) (ls : List (List ℕ)) (last : Entry) (xs ys : List Entry) → HaveLines place n es ls
+pub whole : (place n : ℕ) (es : List Message) (ls : List (List ℕ)) (last : Message) (xs ys : List Message) → HaveLines place n es ls
     → xs ++ ys ≡ es ++ last ∷ []
     → has_last xs ≡ true → ys ≡ []
 whole place n es ls last [] ys h e is = absurd (true≢false (sym is))
@@ -144,25 +144,25 @@ whole place n [] ls last (x ∷ xs) ys h e is = none_behind xs ys (ap tail_of e)
 whole place n (k ∷ es) [] last (x ∷ xs) ys h e is = absurd h
 whole place n (k ∷ es) (l ∷ ls) last (x ∷ xs) ys h e is =
     whole place (n + 1) es ls last xs ys h.1.1.1 (ap tail_of e)
-    (or_none (is_last x.sent) (has_last xs) (ap (λ (l : List Entry). head_last l) e ∙ text_not_last k.sent l h.1.1.0) is)
+    (or_none (is_last x.sent) (has_last xs) (ap (λ (l : List Message). head_last l) e ∙ text_not_last k.sent l h.1.1.0) is)
 
 -- an operator's entries among what was popped are all that it pushed
-pub complete : {S : Type 0} (told : ToldBySource S) (Its : Pass Entry View → Type 0) (places : List (Option S))
-    (ys : List (Operator S)) (popped items : List Entry) → AllByRecursion (λ (p : ℕ × List Entry). p.1 ≡ of_place p.0 (popped ++ items))
+pub complete : {S : Type 0} (told : ToldBySource S) (Its : Pass Message View → Type 0) (places : List (Option S))
+    (ys : List (Operator S)) (popped items : List Message) → AllByRecursion (λ (p : ℕ × List Message). p.1 ≡ of_place p.0 (popped ++ items))
     (map owned ys ++ []) → (k : ℕ) (y : Operator S) → slice_get ys k ≡ Some y → (r : Retired told Its places k y)
     → has_last (of_place k popped) ≡ true → of_place k popped ≡ r.sent.entries ++ r.sent.last ∷ []
 complete told Its places ys popped items kept k y is r ended =
     let s = r.sent in
     let own : (view y.pass).pushed ≡ of_place (view y.pass).place (popped ++ items) =
-    map_at (λ (p : ℕ × List Entry). p.1 ≡ of_place p.0 (popped ++ items)) owned ys [] kept k y is in
+    map_at (λ (p : ℕ × List Message). p.1 ≡ of_place p.0 (popped ++ items)) owned ys [] kept k y is in
     let mine : s.entries ++ s.last ∷ [] ≡ of_place k (popped ++ items) =
     sym (ap (λ (v : View). v.pushed) s.view) ∙ (own ∙ ap (λ (v : View). of_place v.place (popped ++ items)) s.view) in
     let both : of_place k popped ++ of_place k items ≡ s.entries ++ s.last ∷ [] =
-    sym (filter-append (λ (x : Entry). x.place == k) popped items) ∙ sym mine in
+    sym (filter-append (λ (x : Message). x.place == k) popped items) ∙ sym mine in
     let none : of_place k items ≡ [] = whole k 1 s.entries s.lines s.last (of_place k popped) (of_place k items) s.have both ended in
-    sym (append-nil (of_place k popped)) ∙ (ap (λ (l : List Entry). of_place k popped ++ l) (sym none) ∙ both)
+    sym (append-nil (of_place k popped)) ∙ (ap (λ (l : List Message). of_place k popped ++ l) (sym none) ∙ both)
 
-pub ready_all : {S : Type 0} (Its : Pass Entry View → Type 0) (places : List (Option S)) (xs : List (Operator S))
+pub ready_all : {S : Type 0} (Its : Pass Message View → Type 0) (places : List (Option S)) (xs : List (Operator S))
     → EachAt (Hired Its places) xs
     → All (λ (w : Operator S). HasSentNothing w) xs
 ready_all Its places xs h = all_at (λ (w : Operator _). HasSentNothing w) (Hired Its places) xs h
@@ -172,11 +172,11 @@ pub works_back : {A : Type 0} (R : A → A → Type 0) (xs ys : List A) (n : ℕ
     → take n (ys ++ drop (length ys) xs) ≡ ys
 works_back R xs ys n is z = let l = AllZip-long R xs ys z in take_same ys xs n (omega (arith, is, l)) (omega (arith, l))
 
-pub after_release : {S : Type 0} (v e : View) (n : ℕ) (popped : List Entry) (ws ys : List (Operator S)) → ws ≡ ys
+pub after_release : {S : Type 0} (v e : View) (n : ℕ) (popped : List Message) (ws ys : List (Operator S)) → ws ≡ ys
     → e ≡ engine_view n popped [] → v ≡ record e { kept = map owned ws ++ e.kept } → v ≡ engine_view n popped (map owned ys ++ [])
 after_release v e n popped ws ys same h is = is ∙
     (ap (λ (u : View). record u { kept = map owned ws ++ u.kept }) h ∙ ap
     (λ (l : List (Operator _)). engine_view n popped (map owned l ++ [])) same)
 
-pub carries : (q : _) (p p' : Pass Entry View) → IsSamePass p p' → (p.table_id ≡ q) × (p.me.1 ≡ []) → (p'.table_id ≡ q) × (p'.me.1 ≡ [])
+pub carries : (q : _) (p p' : Pass Message View) → IsSamePass p p' → (p.table_id ≡ q) × (p.me.1 ≡ []) → (p'.table_id ≡ q) × (p'.me.1 ≡ [])
 carries q p p' same h = (same.0 ∙ h.0, same.2 ∙ h.1)

@@ -18,7 +18,7 @@ use Rattle.lx_console.specs.ConsoleMeaning.{StandsFor}
 use Rattle.lx_session.specs.declared.tally.Tally.{Tally}
 use Rattle.lx_session.specs.LineAnswer.{LineAnswer}
 use Rattle.lx_session.specs.LineReply.{counts_in}
-use Rattle.lx_crew.specs.declared.entry.Entry.{Entry}
+use Rattle.lx_crew.specs.declared.entry.Message.{Message}
 use Rattle.lx_crew.specs.declared.entry.Sent.{Sent}
 use Rattle.lx_crew.specs.declared.entry.Sent.TheVariants.{Line, LongLine, End, ReadFault, InputTooLong}
 use Rattle.lx_crew.specs.declared.rule.View.{View}
@@ -42,8 +42,8 @@ entries_of place number ReadFault = []
 entries_of place number InputTooLong = []
 
 -- the entries of the transcript
-abbrev pub said : List Entry → List CrewEntry
-said entries = flat_map (λ (e : Entry). entries_of e.place e.number e.sent) entries
+abbrev pub said : List Message → List CrewEntry
+said entries = flat_map (λ (e : Message). entries_of e.place e.number e.sent) entries
 
 -- The name of a line was written and the line done and answered, or a prefix of the name was written.
 pub record NamedAnswer {K : Type 0} (told : ToldBySink K) (sink sink' : K) (result : Result Bool SinkFault)
@@ -65,7 +65,7 @@ pub record IsDoneWithEntries (d : Desk) (entries : List CrewEntry) (failures : L
   pub allows : CrewAllows d entries failures
 
 -- What was popped is answered, and its whole transcript was written.
-pub record AnsweredAll (d : Desk) (popped : List Entry) (held held' : Option (List ℕ)) (console : Kept) (tally : Tally) : Type 0 where
+pub record AnsweredAll (d : Desk) (popped : List Message) (held held' : Option (List ℕ)) (console : Kept) (tally : Tally) : Type 0 where
   pub failures : List (Option ℕ)
   pub now : Session DeskState
   pub done : IsDoneWithEntries d (said popped) failures now
@@ -74,16 +74,16 @@ pub record AnsweredAll (d : Desk) (popped : List Entry) (held held' : Option (Li
   pub stands : StandsFor now.state.desk console
 
 -- A prefix of the transcript of the first of it was written.
-pub record AnsweredPart (d : Desk) (popped : List Entry) (held held' : Option (List ℕ)) : Type 0 where
-  pub first : List Entry
-  pub rest : List Entry
+pub record AnsweredPart (d : Desk) (popped : List Message) (held held' : Option (List ℕ)) : Type 0 where
+  pub first : List Message
+  pub rest : List Message
   pub are : popped ≡ first ++ rest
   pub failures : List (Option ℕ)
   pub allows : CrewAllows d (said first) failures
   pub text : AppendsFront held held' (crew_text d (said first) failures)
 
 -- by the fault of the output
-abbrev pub HasAnswered : Desk → List Entry → (held held' : Option (List ℕ)) → Kept → Tally → Option SinkFault → Type 0
+abbrev pub HasAnswered : Desk → List Message → (held held' : Option (List ℕ)) → Kept → Tally → Option SinkFault → Type 0
 HasAnswered d popped held held' console tally None = AnsweredAll d popped held held' console tally
 HasAnswered d popped held held' console tally (Some fault) = AnsweredPart d popped held held'
 
@@ -97,23 +97,23 @@ pub record OutputCause {K : Type 0} (told : ToldBySink K) (old new : K) (before 
   pub kept : after ≡ None → (before ≡ None) × (told.faults new ≡ told.faults old) × (told.wants new ≡ told.wants old)
 
 -- a place that is set now was set before, or the entry is the last of that operator
-abbrev pub Marked : Entry → List Bool → List Bool → Type 0
+abbrev pub Marked : Message → List Bool → List Bool → Type 0
 Marked e before after = (k : ℕ) → slice_get after k ≡ Some true → (slice_get before k ≡ Some true) ⊎
     ((e.place ≡ k) × (is_last e.sent ≡ true))
 
 -- one entry was popped and answered
 pub record NextEntry (v w : View) (held held' : Option (List ℕ)) (console console' : Kept) (tally tally' : Tally)
     (output output' : Option SinkFault) (ended ended' : List Bool) : Type 0 where
-  pub entry : Entry
+  pub entry : Message
   pub takes : Takes v entry w
   pub marked : Marked entry ended ended'
-  pub answered : (d : Desk) (popped : List Entry) (start : Option (List ℕ)) → HasAnswered d popped start held console tally output
+  pub answered : (d : Desk) (popped : List Message) (start : Option (List ℕ)) → HasAnswered d popped start held console tally output
       → HasAnswered d (popped ++ entry ∷ []) start held' console' tally' output'
 
 -- The engine took entries to the last of each operator and answered them. Where the output had no fault it keeps nothing back.
 pub record HasServedEntries {K : Type 0} (told : ToldBySink K) (operators : ℕ) (v : View)
     (sink sink' : K) (console console' : Kept) (tally : Tally) (output : Option SinkFault) : Type 0 where
-  pub popped : List Entry
+  pub popped : List Message
   pub view : v ≡ engine_view operators popped []
   pub ended : (k : ℕ) → k < operators → has_last (of_place k popped) ≡ true
   pub answered : (d : Desk) → StandsFor d console → HasAnswered d popped (told.holds sink) (told.holds sink') console' tally output

@@ -2,7 +2,7 @@
 use Rattle.std.specs.Prelude.{◌≡◌, ℕ, ◌+◌, ◌==◌, ◌<◌, Bool, true, false, ◌||◌, List, [], ◌∷◌, take, length}
 use Rattle.std.specs.List.{filter}
 use Rattle.lx_base.specs.declared.TheConstants.{LINE_BYTES}
-use Rattle.lx_crew.specs.declared.entry.Entry.{Entry}
+use Rattle.lx_crew.specs.declared.entry.Message.{Message}
 use Rattle.lx_crew.specs.declared.entry.LineText.{LineText}
 use Rattle.lx_crew.specs.declared.entry.Sent.{Sent}
 use Rattle.lx_crew.specs.declared.entry.Sent.TheVariants.{Line, LongLine, End, ReadFault, InputTooLong}
@@ -12,11 +12,11 @@ abbrev pub text_in : LineText → List ℕ
 text_in l = take l.len l.bytes
 
 -- the entries of the operator at a place, in order
-abbrev pub of_place : ℕ → List Entry → List Entry
-of_place place entries = filter (λ (e : Entry). e.place == place) entries
+abbrev pub of_place : ℕ → List Message → List Message
+of_place place entries = filter (λ (e : Message). e.place == place) entries
 
 -- numbered from n without a gap
-abbrev pub Numbered : ℕ → List Entry → Type 0
+abbrev pub Numbered : ℕ → List Message → Type 0
 Numbered n [] = Unit {0}
 Numbered n (e ∷ es) = (e.number ≡ n) × Numbered (n + 1) es
 
@@ -29,7 +29,7 @@ is_last ReadFault = true
 is_last InputTooLong = true
 
 -- a last entry is among them
-abbrev pub has_last : List Entry → Bool
+abbrev pub has_last : List Message → Bool
 has_last [] = false
 has_last (e ∷ es) = is_last e.sent || has_last es
 
@@ -42,7 +42,7 @@ HasText ReadFault text = ⊥
 HasText InputTooLong text = ⊥
 
 -- entries of the operator at a place, numbered from n, that have these lines
-abbrev pub HaveLines : ℕ → ℕ → List Entry → List (List ℕ) → Type 0
+abbrev pub HaveLines : ℕ → ℕ → List Message → List (List ℕ) → Type 0
 HaveLines place n [] [] = Unit {0}
 HaveLines place n [] (l ∷ ls) = ⊥
 HaveLines place n (e ∷ es) [] = ⊥

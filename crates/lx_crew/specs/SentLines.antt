@@ -11,7 +11,7 @@ use Rattle.lx_lex.specs.Lines.{StepOf}
 use Rattle.lx_lex.specs.Unread.{unread, current_line}
 use Rattle.lx_spec.specs.Text.{without_cr}
 use Rattle.lx_spec.specs.Session.{ends_script}
-use Rattle.lx_crew.specs.declared.entry.Entry.{Entry}
+use Rattle.lx_crew.specs.declared.entry.Message.{Message}
 use Rattle.lx_crew.specs.declared.entry.Sent.{Sent}
 use Rattle.lx_crew.specs.declared.entry.Sent.TheVariants.{Line, LongLine, End, ReadFault, InputTooLong}
 use Rattle.lx_crew.specs.declared.fault.OperatorFault.{OperatorFault}
@@ -57,8 +57,8 @@ last_entry (Some ends.InputTooLong) = InputTooLong
 pub record HasSentLines {S : Type 0} (told : ToldBySource S) (place : ℕ) (source source' : S) (v : View)
     (fault : Option OperatorFault) : Type 0 where
   pub lines : List (List ℕ)
-  pub entries : List Entry
-  pub last : Entry
+  pub entries : List Message
+  pub last : Message
   pub view : v ≡ operator_view place (entries ++ last ∷ [])
   pub have : HaveLines place 1 entries lines
   pub own : last.place ≡ place

@@ -8,10 +8,10 @@ ghost use Rattle.lx_spec.specs.Desk.{Desk};
 ghost use Rattle.lx_session.specs.LineState.{meaning_of};
 ghost use Rattle.lx_session.specs.LineReply.{TallyHasRoom, HasOneMore};
 ghost use Rattle.lx_session.specs.LineAnswer.{FromDesk};
-ghost use Rattle.lx_crew.specs.declared.entry.Entry.{Entry as AnEntry};
+ghost use Rattle.lx_crew.specs.declared.entry.Message.{Message as AnEntry};
 ghost use Rattle.lx_crew.specs.EngineAnswers.{AnswersNamed, HasAnswered, OutputCause, named_line};
 
-use crate::entry::{Entry, Sent};
+use crate::entry::{Message, Sent};
 use lx_console::Console;
 use lx_io::{Sink, SinkFault, put_all};
 use lx_lex::put_count_and;
@@ -49,7 +49,7 @@ fn answer_line<K: Sink>(
 /// Answers an entry, unless the output had a fault. Then it is thrown away.
 pub(crate) fn answer_entry<K: Sink>(
     console: &mut Console,
-    entry: &Entry,
+    entry: &Message,
     sink: &mut K,
     tally: &mut Tally,
     output: &mut Option<SinkFault>,

@@ -8,7 +8,7 @@ ghost use Rattle.lx_crew.specs.Rule.{engine_view};
 ghost use Rattle.lx_crew.specs.EngineAnswers.{HasServedEntries, Marked, OutputCause, NextEntry};
 
 use crate::answering::{answer_entry, flush};
-use crate::entry::{Entry, Sent};
+use crate::entry::{Message, Sent};
 use crate::rule::{Gets, Queue, View};
 use crossbeam_queue::Pass;
 use crossbeam_utils::sync::Parker;
@@ -26,7 +26,7 @@ pub(crate) const PLACES: usize = OPERATORS as usize;
 #[derive(Drop)]
 pub struct CrewEngine<'q, 'p, 'w, 'c, 'k, K> {
     pub queue: &'q Queue,
-    pub pass: &'p mut Pass<Entry, View>,
+    pub pass: &'p mut Pass<Message, View>,
     /// It waits here while there is nothing to take.
     pub parker: &'w mut Parker,
     pub console: &'c mut Console,
@@ -70,7 +70,7 @@ impl<K: Sink> Work for CrewEngine<'_, '_, '_, '_, '_, K> {
 fn serve<R: Wait, K: Sink>(
     rt: &R,
     queue: &Queue,
-    pass: &mut Pass<Entry, View>,
+    pass: &mut Pass<Message, View>,
     parker: &Parker,
     console: &mut Console,
     sink: &mut K,
@@ -110,7 +110,7 @@ fn wait<R: Wait, K: Sink>(rt: &R, parker: &Parker, sink: &K, output: Option<Sink
 /// Pops an entry and answers it, if there is one.
 fn take_one<K: Sink>(
     queue: &Queue,
-    pass: &mut Pass<Entry, View>,
+    pass: &mut Pass<Message, View>,
     console: &mut Console,
     sink: &mut K,
     tally: &mut Tally,
@@ -150,7 +150,7 @@ fn all_of(ended: &[bool; PLACES], count: usize) -> bool
 }
 
 /// Sets the place of an operator that ended.
-fn mark(ended: &mut [bool; PLACES], entry: &Entry)
+fn mark(ended: &mut [bool; PLACES], entry: &Message)
     ensures { Marked entry.now ended.old ended.new }
 {
     if !is_last(&entry.sent) {

@@ -53,7 +53,7 @@ pub enum Sent {
 
 /// What an operator sends.
 #[derive(Drop)]
-pub struct Entry {
+pub struct Message {
     /// The operator's place, from 0.
     pub place: u8,
     /// Its number among that operator's entries, from 1.

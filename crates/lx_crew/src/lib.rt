@@ -11,7 +11,7 @@ mod rule;
 mod running;
 
 pub use engine::CrewEngine;
-pub use entry::{Entry, LineText, Sent};
+pub use entry::{LineText, Message, Sent};
 pub use fault::OperatorFault;
 pub use follows::Follows;
 pub use operator::Operator;

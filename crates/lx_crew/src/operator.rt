@@ -6,7 +6,7 @@ ghost use Rattle.lx_lex.specs.Unread.{CanAdvance, SameSource};
 ghost use Rattle.lx_crew.specs.Rule.{operator_view};
 ghost use Rattle.lx_crew.specs.SentLines.{HasSentLines, TookNext};
 
-use crate::entry::{Entry, LineText, Sent};
+use crate::entry::{LineText, Message, Sent};
 use crate::fault::OperatorFault;
 use crate::follows::{Follows, what_follows};
 use crate::rule::{Queue, Sends, View};
@@ -24,7 +24,7 @@ pub struct Operator<'q, 'e, S> {
     pub queue: &'q Queue,
     /// Wakes the engine.
     pub engine: &'e Unparker,
-    pub pass: Pass<Entry, View>,
+    pub pass: Pass<Message, View>,
     pub source: S,
     /// Its place, from 0.
     pub place: u8,
@@ -53,7 +53,7 @@ fn send_lines<R: Wait, S: Source>(
     rt: &R,
     queue: &Queue,
     engine: &Unparker,
-    pass: &mut Pass<Entry, View>,
+    pass: &mut Pass<Message, View>,
     place: u8,
     source: &mut S,
 ) -> Option<OperatorFault>
@@ -72,7 +72,7 @@ fn send_lines<R: Wait, S: Source>(
             queue,
             engine,
             pass,
-            Entry {
+            Message {
                 place,
                 number,
                 sent,
@@ -81,7 +81,7 @@ fn send_lines<R: Wait, S: Source>(
         match after {
             Follows::Lines => {}
             Follows::End => {
-                let last = Entry {
+                let last = Message {
                     place,
                     number: number + 1,
                     sent: Sent::End,
@@ -116,8 +116,8 @@ fn send<R: Wait>(
     rt: &R,
     queue: &Queue,
     engine: &Unparker,
-    pass: &mut Pass<Entry, View>,
-    entry: Entry,
+    pass: &mut Pass<Message, View>,
+    entry: Message,
 )
     requires queue { IsPassOf queue.now pass.old }
     requires pushes { (view pass.old).pushes ≡ true }

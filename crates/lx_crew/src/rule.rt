@@ -2,7 +2,7 @@
 ghost use Rattle.std.specs.Prelude.{◌≡◌, ◌+◌, ◌++◌, ◌∷◌, [], ℕ, List};
 ghost use Rattle.lx_crew.specs.Rule.{Learned, AddsEntry, Takes};
 
-use crate::entry::Entry;
+use crate::entry::Message;
 use crossbeam_queue::RuledArrayQueue;
 use crossbeam_queue::protocol::{Join, Lesson, Outcome, Protocol, Split};
 use std::collections::LinkedList;
@@ -15,15 +15,15 @@ pub struct View {
     pub pops: bool,
     pub place: u64,
     pub made: u64,
-    pub pushed: LinkedList<Entry>,
-    pub popped: LinkedList<Entry>,
-    pub kept: LinkedList<(u64, LinkedList<Entry>)>,
+    pub pushed: LinkedList<Message>,
+    pub popped: LinkedList<Message>,
+    pub kept: LinkedList<(u64, LinkedList<Message>)>,
 }
 
 /// The rule of the queue.
 pub struct QueueLaw;
 
-impl Protocol<Entry, View> for QueueLaw {
+impl Protocol<Message, View> for QueueLaw {
     ghost use Rattle.std.specs.Prelude.{[]};
     ghost use Rattle.lx_crew.specs.Rule.{KeepsOrder, engine_view};
 
@@ -59,28 +59,28 @@ impl Join<View> for Leaves {
 /// An entry is pushed.
 pub struct Sends;
 
-impl Outcome<Entry, View> for Sends {
+impl Outcome<Message, View> for Sends {
     ghost then = { AddsEntry };
 }
 
 /// An entry is popped.
 pub struct Gets;
 
-impl Outcome<Entry, View> for Gets {
+impl Outcome<Message, View> for Gets {
     ghost then = { Takes };
 }
 
 /// Where the queue is found empty, all that the operators pushed which were taken in was popped.
-impl Lesson<Entry, View> for Gets {
+impl Lesson<Message, View> for Gets {
     ghost fact = { Learned };
 }
 
 /// What each operator pushed that was taken in was popped, or is in the queue.
 pub struct Total;
 
-impl Lesson<Entry, View> for Total {
+impl Lesson<Message, View> for Total {
     ghost fact = { Learned };
 }
 
 /// The queue.
-pub type Queue = RuledArrayQueue<Entry, View, QueueLaw>;
+pub type Queue = RuledArrayQueue<Message, View, QueueLaw>;

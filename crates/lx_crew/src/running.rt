@@ -14,7 +14,7 @@ ghost use Rattle.lx_base.specs.Places.{EachAt};
 ghost use Rattle.lx_crew.specs.OperatorWorks.{HasRunOperator, Hired, HasSentNothing, Works, owned};
 
 use crate::engine::{CrewEngine, PLACES};
-use crate::entry::Entry;
+use crate::entry::Message;
 use crate::fault::OperatorFault;
 use crate::operator::Operator;
 use crate::rule::{Enters, Leaves, Queue, Total, View};
@@ -93,7 +93,7 @@ pub fn crew<R: Threads + Wait + Sync, S: Source + Send + Drop, K: Sink + Send>(
 fn perform<'q, 'e, R: Threads + Wait + Sync, S: Source + Send, K: Sink + Send>(
     rt: &R,
     queue: &Queue,
-    pass: &mut Pass<Entry, View>,
+    pass: &mut Pass<Message, View>,
     parker: &mut Parker,
     console: &mut Console,
     sink: &mut K,
@@ -126,7 +126,7 @@ fn perform<'q, 'e, R: Threads + Wait + Sync, S: Source + Send, K: Sink + Send>(
 fn hire<'q, 'e, S: Source>(
     queue: &'q Queue,
     waker: &'e Unparker,
-    pass: &mut Pass<Entry, View>,
+    pass: &mut Pass<Message, View>,
     operators: &mut [Option<S>],
     works: &mut Vec<Operator<'q, 'e, S>>,
 )
@@ -162,7 +162,7 @@ fn hire<'q, 'e, S: Source>(
 /// Takes each operator's pass in, and gives each place its source again. It says the faults, each at its operator's place.
 fn release<S: Source + Drop>(
     queue: &Queue,
-    pass: &mut Pass<Entry, View>,
+    pass: &mut Pass<Message, View>,
     operators: &mut [Option<S>],
     works: Vec<Operator<'_, '_, S>>,
 ) -> [Option<OperatorFault>; PLACES]

@@ -21,7 +21,7 @@ use lx_lex::Lines;
 use lx_reader::read_show;
 use lx_show::Show;
 use lx_spec::Form;
-use lx_workers::{OUTLETS, Played, play};
+use lx_workers::{LiveOutcome, OUTLETS, play};
 use std::alloc::Global;
 use std::sync::Wait;
 use std::thread::Threads;
@@ -140,7 +140,7 @@ fn play_live<
 }
 
 /// The status of a live run: the session's fault first, then a write that failed, then lack of memory.
-fn status_of_run(played: &Played) -> Status
+fn status_of_run(played: &LiveOutcome) -> Status
     ensures { TellsRun played.now.session played.now.outlets played.now.unsent result }
 {
     match played.session {

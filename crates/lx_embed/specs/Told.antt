@@ -14,10 +14,10 @@ use Rattle.lx_undo.specs.UndoDeskMeaning.{UndoStands}
 use Rattle.lx_embed.specs.declared.engine.Engine.{Engine}
 use Rattle.lx_embed.specs.declared.engine.Engine.TheVariants.{Plain, Undo}
 use Rattle.lx_embed.specs.declared.state.PlaybackState.{PlaybackState}
-use Rattle.lx_embed.specs.declared.state.Span.{Span}
+use Rattle.lx_embed.specs.declared.state.RunSpan.{RunSpan}
 
 -- when a run began, and from when on it is over
-abbrev pub span_of : Run → Span
+abbrev pub span_of : Run → RunSpan
 span_of run = record { began = run.start; ends = run.start + extent run }
 
 -- where the playback stands: every live run is over from over_at on
@@ -34,9 +34,9 @@ pub record Stands (console : Kept) (state : PlaybackState) : Type 0 where
   pub cues : state.cues ≡ length console.show.cues
 
 -- each desk for which the engine stood accepted this many ticks
-abbrev pub Ticked : Engine → ℕ → Engine → Type 0
-Ticked (Plain before) n (Plain now) = (d : Desk) → StandsFor d before → IsOkAnd (after_ticks n d) (λ next. StandsFor next now)
-Ticked (Undo before) n (Undo now) = (s : UndoState) → UndoStands s before
+abbrev pub AcceptedTicks : Engine → ℕ → Engine → Type 0
+AcceptedTicks (Plain before) n (Plain now) = (d : Desk) → StandsFor d before → IsOkAnd (after_ticks n d) (λ next. StandsFor next now)
+AcceptedTicks (Undo before) n (Undo now) = (s : UndoState) → UndoStands s before
     → IsOkAnd (after_ticks n s.desk) (λ next. UndoStands (record s { desk = next }) now)
-Ticked (Plain before) n (Undo now) = ⊥
-Ticked (Undo before) n (Plain now) = ⊥
+AcceptedTicks (Plain before) n (Undo now) = ⊥
+AcceptedTicks (Undo before) n (Plain now) = ⊥

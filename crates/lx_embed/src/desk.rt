@@ -14,7 +14,7 @@ ghost use Rattle.lx_embed.specs.Engines.{console_of};
 ghost use Rattle.lx_embed.specs.Opened.{OpensText, RefusesShow};
 ghost use Rattle.lx_embed.specs.ReplyBytes.{reply_bytes};
 ghost use Rattle.lx_embed.specs.TakenSlots.{taken_of};
-ghost use Rattle.lx_embed.specs.Told.{Stands, Ticked};
+ghost use Rattle.lx_embed.specs.Told.{Stands, AcceptedTicks};
 
 use crate::engine::Engine;
 use crate::open::open_text;
@@ -79,7 +79,7 @@ impl HostDesk {
     /// Lets this many ticks go by, and says how many were accepted: all of them, unless the moment comes to its end.
     pub fn tick(&mut self, n: u32) -> u32
         ensures most { result ≤ n }
-        ensures ticks { Ticked self.old.engine result self.new.engine }
+        ensures ticks { AcceptedTicks self.old.engine result self.new.engine }
         ensures end { result < n → (d : Desk) → StandsFor d (console_of self.new.engine) → IsErr (step d Command.Tick) }
         ensures kept { (self.new.reply ≡ self.old.reply) × (self.new.taken ≡ self.old.taken) }
     {

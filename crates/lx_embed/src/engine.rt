@@ -12,7 +12,7 @@ ghost use Rattle.lx_undo.specs.UndoDeskMeaning.{UndoStands};
 ghost use Rattle.lx_embed.specs.Answered.{Answered, AnswersLine};
 ghost use Rattle.lx_embed.specs.Engines.{console_of, OpenedAs};
 ghost use Rattle.lx_embed.specs.ReplyBytes.{reply_bytes};
-ghost use Rattle.lx_embed.specs.Told.{Ticked};
+ghost use Rattle.lx_embed.specs.Told.{AcceptedTicks};
 
 use crate::reply::ReplyText;
 use crate::ticks::{tick_plain, tick_undo};
@@ -71,7 +71,7 @@ impl Engine {
     /// Lets this many ticks go by, and says how many were accepted: all of them, unless the moment comes to its end.
     pub(crate) fn tick(&mut self, n: u32) -> u32
         ensures most { result ≤ n }
-        ensures ticks { Ticked self.old result self.new }
+        ensures ticks { AcceptedTicks self.old result self.new }
         ensures end { result < n → (d : Desk) → StandsFor d (console_of self.new) → IsErr (step d Command.Tick) }
     {
         match self {

@@ -17,5 +17,5 @@ pub use desk::HostDesk;
 pub use engine::Engine;
 pub use one_line::is_line;
 pub use reply::ReplyText;
-pub use state::{PlaybackState, Span};
+pub use state::{PlaybackState, RunSpan};
 pub use taken::{Taken, TakenSlots};

@@ -9,7 +9,7 @@ use lx_playback::Playback;
 
 /// When a run began, and from when on it is over.
 #[derive(Clone, Copy, PartialEq, Eq, Debug)]
-pub struct Span {
+pub struct RunSpan {
     pub began: Moment,
     pub ends: Moment,
 }
@@ -28,7 +28,7 @@ pub struct PlaybackState {
     /// From this moment on every live run is over; 0 where none is live.
     pub over_at: Moment,
     /// The newest live run's. `None` where none is live.
-    pub newest: Option<Span>,
+    pub newest: Option<RunSpan>,
     /// The moment at which the pending follow is due. `None` where none is pending.
     pub follow_at: Option<Moment>,
     /// The master.
@@ -61,11 +61,11 @@ pub(crate) fn state_of(console: &Console) -> PlaybackState
 }
 
 /// The newest live run's span.
-fn newest_of(playback: &Playback) -> Option<Span>
+fn newest_of(playback: &Playback) -> Option<RunSpan>
     ensures { result ≡ option_map span_of (slice_get playback.now.live 0) }
 {
     let run = playback.live().last()?;
-    Some(Span {
+    Some(RunSpan {
         began: run.start,
         ends: run.start + run.extent(),
     })

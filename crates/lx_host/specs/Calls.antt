@@ -21,7 +21,7 @@ use Rattle.lx_embed.specs.Engines.{console_of}
 use Rattle.lx_embed.specs.Opened.{OpensText}
 use Rattle.lx_embed.specs.ReplyBytes.{reply_bytes}
 use Rattle.lx_embed.specs.TakenSlots.{taken_of}
-use Rattle.lx_embed.specs.Told.{Stands, Ticked}
+use Rattle.lx_embed.specs.Told.{Stands, AcceptedTicks}
 use Rattle.lx_host.specs.declared.status.PlaybackReport.{PlaybackReport}
 use Rattle.lx_host.specs.declared.status.ShowReport.{ShowReport}
 use Rattle.lx_host.specs.declared.status.TheConstants.{OK, MEMORY, QUIT, MORE}
@@ -82,7 +82,7 @@ IsOver held = IfSome held (λ host. (d : Desk) → StandsFor d (console_of host.
 
 -- this many ticks were accepted by every desk for which the engine stood, and all the rest is as it was
 pub record HasTicked (before : HostDesk) (n : ℕ) (now : HostDesk) : Type 0 where
-  pub ticks : Ticked before.engine n now.engine
+  pub ticks : AcceptedTicks before.engine n now.engine
   pub reply : now.reply ≡ before.reply
   pub taken : now.taken ≡ before.taken
 
@@ -93,7 +93,7 @@ Ticks (Some before) n None = ⊥
 Ticks None n (Some now) = ⊥
 
 -- The bytes are the frame of the universe, of every desk for which the engine stands. They are taken; all the rest is as it was.
-pub record Shows (before : HostDesk) (u : ℕ) (bytes : List ℕ) (now : HostDesk) : Type 0 where
+pub record HandsOutFrame (before : HostDesk) (u : ℕ) (bytes : List ℕ) (now : HostDesk) : Type 0 where
   pub frame : (d : Desk) → StandsFor d (console_of before.engine) → bytes ≡ frame d u
   pub taken : taken_of now.taken u ≡ Some bytes
   pub others : (v : ℕ) → 1 ≤ v → v ≢ u → taken_of now.taken v ≡ taken_of before.taken v
@@ -101,7 +101,7 @@ pub record Shows (before : HostDesk) (u : ℕ) (bytes : List ℕ) (now : HostDes
   pub reply : now.reply ≡ before.reply
 
 abbrev pub ShowsFrame : Option HostDesk → ℕ → List ℕ → Option HostDesk → Type 0
-ShowsFrame (Some before) u bytes (Some now) = Shows before u bytes now
+ShowsFrame (Some before) u bytes (Some now) = HandsOutFrame before u bytes now
 ShowsFrame held u bytes now = ⊥
 
 -- whether the frame of the universe isn't the one that was taken last

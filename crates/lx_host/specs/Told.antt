@@ -4,7 +4,7 @@ use Rattle.lx_spec.specs.declared.TextFault.TheVariants as texts
 use Rattle.lx_reader.specs.declared.fault.ShowFault.{ShowFault}
 use Rattle.lx_reader.specs.declared.fault.ShowFault.TheVariants as faults
 use Rattle.lx_embed.specs.declared.state.PlaybackState.{PlaybackState}
-use Rattle.lx_embed.specs.declared.state.Span.{Span}
+use Rattle.lx_embed.specs.declared.state.RunSpan.{RunSpan}
 use Rattle.lx_host.specs.declared.status.PlaybackReport.{PlaybackReport}
 use Rattle.lx_host.specs.declared.status.ShowReport.{ShowReport}
 use Rattle.lx_host.specs.declared.status.TheConstants.{MEMORY, SHOW_REFUSED, TOO_LONG}
@@ -28,7 +28,7 @@ show_report other = record { fault = 0; line = 0 }
 -- with 0 for what isn't there
 abbrev pub playback_of : PlaybackState → PlaybackReport
 playback_of state =
-    let newest : Span = unwrap_or state.newest (record { began = 0; ends = 0 }) in
+    let newest : RunSpan = unwrap_or state.newest (record { began = 0; ends = 0 }) in
     record {
       moment = state.moment;
       position = state.position;

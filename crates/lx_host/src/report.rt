@@ -5,7 +5,7 @@ ghost use Rattle.lx_host.specs.Told.{status_of, show_report, playback_of};
 
 use crate::status::{MEMORY, PlaybackReport, SHOW_REFUSED, ShowReport, TOO_LONG};
 use lx_base::CueNo;
-use lx_embed::{PlaybackState, Span};
+use lx_embed::{PlaybackState, RunSpan};
 use lx_reader::ShowFault;
 use lx_spec::TextFault;
 
@@ -51,7 +51,7 @@ pub(crate) fn playback_for(state: PlaybackState) -> PlaybackReport
     ensures { result ≡ playback_of state }
 {
     let next = state.next.unwrap_or(CueNo::BEFORE_FIRST);
-    let newest = state.newest.unwrap_or(Span { began: 0, ends: 0 });
+    let newest = state.newest.unwrap_or(RunSpan { began: 0, ends: 0 });
     PlaybackReport {
         moment: state.moment,
         position: state.position.get(),

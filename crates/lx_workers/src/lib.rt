@@ -12,5 +12,5 @@ mod worker;
 
 pub use halt::{Halt, Stop, Watch};
 pub use lane::Lane;
-pub use playing::{OUTLETS, Played, play};
+pub use playing::{LiveOutcome, OUTLETS, play};
 pub use worker::{Served, serve};

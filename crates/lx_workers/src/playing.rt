@@ -37,7 +37,7 @@ pub const OUTLETS: usize = UNIVERSES as usize;
 
 /// How a live run ended.
 #[derive(Drop)]
-pub struct Played {
+pub struct LiveOutcome {
     /// How the session ended.
     pub session: Result<Tally, SessionFault>,
     /// The fault of the outlet of universe u, at place u - 1, where it had one.
@@ -69,7 +69,7 @@ pub fn play<
     output: &mut O,
     outlets: &mut [Option<K>],
     pace: &C,
-) -> Result<Played, AllocError>
+) -> Result<LiveOutcome, AllocError>
     requires opened { StandsFor (opened console.old.show) console.old }
     requires going { CanAdvance lines.old }
     requires within { bytes_taken lines.old ≤ INPUT_BYTES }
@@ -114,7 +114,7 @@ fn play_over<
     outlets: &mut [Option<K>],
     pace: &C,
     history: EmptyHistory,
-) -> Result<Played, AllocError>
+) -> Result<LiveOutcome, AllocError>
     requires show { console.old.show ≡ G.show }
     requires opened { StandsFor (opened G.show) console.old }
     requires book { history.seen.book ≡ G.book }
@@ -158,7 +158,7 @@ fn play_over<
     let Some(gate) = gate else { unreachable!() };
     let faults = give_back(&gate, lanes, outlets);
     gate.close(rt);
-    Ok(Played {
+    Ok(LiveOutcome {
         session,
         outlets: faults,
         unsent: unsent.len(),

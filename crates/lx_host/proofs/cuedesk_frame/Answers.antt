@@ -1,10 +1,10 @@
-use Rattle.lx_host.proofs.Imports.{rules, ◌≡◌, sym, subst, HostDesk, Shows, ShowsFrame}
+use Rattle.lx_host.proofs.Imports.{rules, ◌≡◌, sym, subst, HostDesk, HandsOutFrame, ShowsFrame}
 use Rattle.std.proofs.Common.{Option, Some}
 use Rattle.lx_host.proofs.cuedesk_frame.Goals as goal
 
 pub returns-then-copied-clause-frame : goal.returns-then-copied-clause-frame
 returns-then-copied-clause-frame c = λ ok.
-    let shows : Shows c.deref_mut.result.now c.args.universe c.frame-copied.new.out c.frame-copied.new.self = record {
+    let shows : HandsOutFrame c.deref_mut.result.now c.args.universe c.frame-copied.new.out c.frame-copied.new.self = record {
       frame = c.frame-copied.ensures.frame c.if-copied.true;
       taken = c.frame-copied.ensures.taken c.if-copied.true;
       others = c.frame-copied.ensures.others;

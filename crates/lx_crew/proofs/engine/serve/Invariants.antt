@@ -1,5 +1,5 @@
 use Rattle.lx_crew.proofs.Imports.{◌≡◌, ◌≤◌, ◌+◌, ◌-◌, ◌^◌, ℕ, List, [], true, None, slice_get, Some, view, IsSamePass, Desk}
-use Rattle.lx_crew.proofs.Imports.{StandsFor, Entry, of_place, has_last, engine_view, HasAnswered, OutputCause}
+use Rattle.lx_crew.proofs.Imports.{StandsFor, Message, of_place, has_last, engine_view, HasAnswered, OutputCause}
 use Rattle.lx_crew.proofs.engine.serve.Given as goal
 
 abbrev pub invariant-loop : goal.invariant-loop
@@ -7,7 +7,7 @@ invariant-loop g l = record {
   can : (goal.iterator-loop g).can_next l.iterator';
   finite : (goal.iterator-loop g).is_finite l.iterator';
   same : IsSamePass l.initial.pass l.pass;
-  popped : List Entry;
+  popped : List Message;
   view : view l.pass ≡ engine_view l.operators popped [];
   ended : (k : ℕ) → slice_get l.ended k ≡ Some true → has_last (of_place k popped) ≡ true;
   answered : (d : Desk) → StandsFor d l.initial.console

@@ -1,10 +1,10 @@
 use Rattle.lx_crew.proofs.Imports.{rules, ◌≡◌, ◌+◌, ◌≤◌, ℕ, zero, suc, List, [], ◌++◌, ◌∷◌, length, map, Some, None, slice_get}
-use Rattle.lx_crew.proofs.Imports.{refl, ap, sym, ◌∙◌, length-set, arith, length_push, slice_get_within, view, Entry, Operator, View, owned}
+use Rattle.lx_crew.proofs.Imports.{refl, ap, sym, ◌∙◌, length-set, arith, length_push, slice_get_within, view, Message, Operator, View, owned}
 use Rattle.lx_crew.proofs.Rules.{merges}
 use Rattle.lx_crew.proofs.Works.{each_init, map_snoc, told_more, none_more}
 use Rattle.lx_crew.proofs.running.release.Goals as goal
 
-keeps_more : (v w u : View) (kept : List (ℕ × List Entry)) (p : ℕ × List Entry) → v ≡ record u { kept = kept }
+keeps_more : (v w u : View) (kept : List (ℕ × List Message)) (p : ℕ × List Message) → v ≡ record u { kept = kept }
     → w ≡ record v { kept = p ∷ v.kept } → w ≡ record u { kept = p ∷ kept }
 keeps_more v w u kept p h i = i ∙ ap (λ (x : View). record x { kept = p ∷ x.kept }) h
 

@@ -1,11 +1,11 @@
-use Rattle.lx_crew.proofs.Imports.{◌≡◌, ◌≤◌, ◌<◌, ℕ, List, ◌++◌, length, map, slice_get, Some, vec_len, view, IsPassOf, IsSamePass, Entry}
+use Rattle.lx_crew.proofs.Imports.{◌≡◌, ◌≤◌, ◌<◌, ℕ, List, ◌++◌, length, map, slice_get, Some, vec_len, view, IsPassOf, IsSamePass, Message}
 use Rattle.lx_crew.proofs.Imports.{EachAt, Works, owned}
 use Rattle.lx_crew.proofs.running.release.Given as goal
 
 abbrev pub invariant-loop-work : goal.invariant-loop-work
 invariant-loop-work g l = record {
   same : IsSamePass l.initial.pass l.pass;
-  kept : List (ℕ × List Entry);
+  kept : List (ℕ × List Message);
   knows : view l.pass ≡ record (view l.initial.pass) { kept = kept };
   lists : map owned l.works.items ++ kept ≡ map owned l.initial.works.items ++ (view l.initial.pass).kept;
   works : EachAt (Works (IsPassOf l.queue)) l.works.items;
