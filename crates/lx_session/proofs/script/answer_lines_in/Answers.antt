@@ -1,4 +1,4 @@
-use Rattle.lx_session.proofs.Imports.{refl}
+use Rattle.lx_session.proofs.Imports.{refl, true}
 use Rattle.lx_session.proofs.script.answer_lines_in.Goals as goal
 
 pub returns-clause-outcome : goal.returns-clause-outcome
