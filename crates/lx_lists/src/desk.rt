@@ -5,9 +5,9 @@ ghost use Rattle.lx_base.specs.declared.TheConstants.{SLOTS, UNIVERSES};
 ghost use Rattle.lx_io.specs.Causes.{HasCause, HasCauseOf};
 ghost use Rattle.lx_spec.specs.ValidEdit.{ValidCommand};
 ghost use Rattle.lx_spec.specs.Desk.{is_edit};
-ghost use Rattle.lx_spec.specs.Desk.{Desk};
+ghost use Rattle.lx_spec.specs.Desk.{Desk, opened};
 ghost use Rattle.lx_spec.specs.Output.{dimmer_value};
-ghost use Rattle.lx_spec.specs.TwoLists.{TwoDesks, opened_two, first_step, second_step, tick_step, is_tick, commands_second, frame_of_two};
+ghost use Rattle.lx_spec.specs.TwoLists.{TwoDesks, opened_two, second_show, first_step, second_step, tick_step, is_tick, commands_second, frame_of_two};
 ghost use Rattle.lx_mixer.specs.Table.{IsTable};
 ghost use Rattle.lx_console.specs.Slots.{universe};
 ghost use Rattle.lx_console.specs.ConsoleMeaning.{StandsFor, Obeys};
@@ -58,8 +58,7 @@ impl TwoLists {
         ensures stand { IfOk result (TwoStand (opened_two show)) }
         ensures cause { HasCause (H.refusals heap.old) (H.refusals heap.new) result }
     {
-        let apart = second_of(heap, &show)?;
-        let second = Player::open_in(heap, apart)?;
+        let second = open_second(heap, &show)?;
         let mut show = show;
         leave_first(&mut show);
         let mut output = Output::open_in(heap, &show)?;
@@ -187,4 +186,13 @@ impl TwoLists {
         }
         Ok(())
     }
+}
+
+/// The player of the second list, over a copy of the show with the cues of that list. An error comes where the heap refuses memory.
+fn open_second<H: Heap>(heap: &mut H, show: &Show) -> Result<Player, AllocError>
+    ensures stands { IfOk result (StandsFor (opened (second_show show.now))) }
+    ensures cause { HasCause (H.refusals heap.old) (H.refusals heap.new) result }
+{
+    let second = second_of(heap, show)?;
+    Player::open_in(heap, second)
 }
