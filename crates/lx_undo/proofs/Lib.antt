@@ -1,3 +1,4 @@
+mod Asked
 pub mod Histories
 pub mod SomeDesk
 pub mod DeskSteps
