@@ -1,7 +1,7 @@
 -- A line only adds to the text, and the line that ends the script leaves a session as it was.
 use Rattle.lx_undo.proofs.Imports.{◌≡◌, ℕ, true, Option, Some, None, Result, Ok, Err, List, refl, ap, ◌∙◌, is_some, if◌then◌else◌}
-use Rattle.lx_undo.proofs.Imports.{option_map_or, Line, Memory, UndoLine, ok_text, refused_text, line_of, Session, ends_script, is_quit, begun, tried}
-use Rattle.lx_undo.proofs.Imports.{UndoState, undo_line_of, undo_answer, undo_answering, asked, attempted, plain, after_asking, after_plain, reply_to}
+use Rattle.lx_undo.proofs.Imports.{option_map_or, Line, Memory, UndoLine, ok_text, refused_text, line_of, Session, is_quit, begun, tried}
+use Rattle.lx_undo.proofs.Imports.{UndoState, undo_line_of, undo_answering, asked, attempted, plain, after_asking, after_plain, reply_to}
 use Rattle.lx_undo.proofs.Imports.{ExtendsText, IsLawful, with_reply_is}
 use Rattle.lx_session.proofs.HeardLines.{quit_is}
 use Rattle.lx_undo.proofs.Lines.{quit_asks_nothing}

@@ -1,4 +1,3 @@
-mod Asked
 pub mod Histories
 pub mod SomeDesk
 pub mod DeskSteps

@@ -1,6 +1,6 @@
 -- A line that was done, and whose reply was put, was answered.
-use Rattle.lx_undo.proofs.Imports.{◌≡◌, ℕ, ◌+◌, Bool, true, false, ◌==◌, Option, Some, None, Result, Ok, Err, OnOk, List, refl, sym, ap}
-use Rattle.lx_undo.proofs.Imports.{◌∙◌, subst, inl, inr, arith, ◌-◌, IfOk, is_some, not, if◌then◌else◌, option_map_or, IsOkAnd, list_any}
+use Rattle.lx_undo.proofs.Imports.{◌≡◌, ℕ, Bool, true, false, Option, Some, None, Result, Ok, Err, OnOk, List, refl, sym, ap}
+use Rattle.lx_undo.proofs.Imports.{◌∙◌, subst, inl, inr, ◌-◌, IfOk, is_some, not, if◌then◌else◌, option_map_or, IsOkAnd, list_any}
 use Rattle.lx_undo.proofs.Imports.{cases_Bool, Command, Line, Memory, UndoLine, Desk, Kept, is_edit, ok_text, refused_text, line_of, Session, ends_script}
 use Rattle.lx_undo.proofs.Imports.{is_quit, DeskState, Attempt, begun, after_attempts, UndoState, undo_line_of, undo_answer, undo_answering, asked, attempted}
 use Rattle.lx_undo.proofs.Imports.{plain, after_asking, after_plain, UndoMayFail, MayFailAsked, after_commands, LineProgress, reply_to, counts_after, counts_in}

@@ -1,7 +1,7 @@
 -- Commands of one line, one after another, bring a desk with its history to the state after them.
 use Rattle.lx_undo.proofs.Imports.{◌≡◌, ℕ, ◌+◌, ◌-◌, ◌≤◌, ◌<◌, Bool, true, false, ◌||◌, Option, Some, None, Result, Ok, Err, List}
 use Rattle.lx_undo.proofs.Imports.{[], ◌∷◌, ◌++◌, length, refl, sym, ap, ◌∙◌, subst, arith, inl, inr, length-append, append-nil, ◌⊎◌}
-use Rattle.lx_undo.proofs.Imports.{OnErr, IsOk, IfSome, if◌then◌else◌, list_any, result_err, result_unwrap_or, cases_Bool, Command, Line, Refusal}
+use Rattle.lx_undo.proofs.Imports.{OnErr, IsOk, if◌then◌else◌, list_any, result_err, result_unwrap_or, cases_Bool, Command, Line, Refusal}
 use Rattle.lx_undo.proofs.Imports.{◌>>=◌, Desk, step, after_command, is_edit, begun, command_of, count_of, UndoState, replaced, undo_step, StandsFor}
 use Rattle.lx_undo.proofs.Imports.{Refuses, after_commands, LineState, next_of, unattempted, LineProgress, UndoKept, UndoStands, TakesUndoStep, UndoWantsMemory}
 use Rattle.lx_undo.proofs.Imports.{reached, HasReached}

@@ -1,13 +1,12 @@
 -- Which lines ask something of the history: such a line means nothing else, and a line that ends the script is none.
-use Rattle.lx_undo.proofs.Imports.{◌≡◌, ℕ, Bool, true, false, Option, Some, None, List, [], ◌∷◌, refl, sym, ap, subst, ◌∙◌, inl, inr}
-use Rattle.lx_undo.proofs.Imports.{nat_lt, length, codes, find, IfSome, option_map_or, cases_Bool, Line, UndoLine, line_of, meaning, sentences, ends_script}
-use Rattle.lx_undo.proofs.Imports.{is_quit, undo_line_of, undo_meaning, ValidLine, meaning_of}
+use Rattle.lx_undo.proofs.Imports.{◌≡◌, ℕ, Bool, true, false, Option, Some, None, List, [], ◌∷◌, refl, ap, ◌∙◌, inl, inr}
+use Rattle.lx_undo.proofs.Imports.{nat_lt, length, codes, find, option_map_or, cases_Bool, Line, UndoLine, line_of, meaning, sentences, ends_script}
+use Rattle.lx_undo.proofs.Imports.{is_quit, undo_line_of, undo_meaning}
 use Rattle.std.specs.Str.{str_to_ascii_uppercase, bytes_eq}
 use Rattle.std.proofs.lemmas.Slice.Eq.{bytes_eq-Decides}
 use Rattle.lx_base.specs.declared.TheConstants.{LINE_BYTES}
 use Rattle.lx_spec.specs.Text.{tokens, is_word}
 use Rattle.lx_spec.specs.Phrase.{Tokens}
-use Rattle.lx_spec.proofs.ValidLines.{line_of-valid}
 
 -- what a line means by its first token in capitals
 abbrev by_capitals : List ℕ → Tokens → List ℕ → Option Line

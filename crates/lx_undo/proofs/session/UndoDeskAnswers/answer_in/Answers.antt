@@ -1,4 +1,4 @@
-use Rattle.lx_undo.proofs.Imports.{◌∙◌, sym, option_copied}
+use Rattle.lx_undo.proofs.Imports.{option_copied}
 use Rattle.lx_undo.proofs.Lawful.{undo_lawful}
 use Rattle.lx_undo.proofs.LineAnswers.{more_of, more_after}
 use Rattle.lx_undo.proofs.session.UndoDeskAnswers.answer_in.Goals as goal
