@@ -3,9 +3,9 @@
 #![tactic(auto)]
 
 use lx_desk::Status;
-use lx_io::{BufferedSink, Sink, StdSink, StdSource};
+use lx_io::{BufferedSink, Sink, StdSink, StdSource, SystemHeap};
 use lx_program::{
-    DeskPace, WordsFault, desk, desk_crew, desk_live, exit_of, files, scripts, words_of,
+    DeskPace, WordsFault, desk_crew, desk_in, desk_live, exit_of, files, scripts, words_of,
 };
 use lx_spec::{Job, ScriptKind};
 use std::alloc::Global;
@@ -98,7 +98,7 @@ fn main(rt: HostRuntime) -> ExitCode {
                 &DeskPace::new(&rt),
             )
         }
-        Ok(_) => desk(alloc, &words, &mut input, &mut output),
+        Ok(_) => desk_in(&mut SystemHeap::new(alloc), &words, &mut input, &mut output),
         Err(WordsFault::Usage) => Status::Usage,
         Err(WordsFault::Memory) => Status::Memory,
     };

@@ -3,7 +3,7 @@ use Rattle.lx_desk.proofs.Imports.{◌≡◌, inl, inr, ℕ, ◌+◌, ◌≤◌,
 use Rattle.lx_desk.proofs.Imports.{◌∙◌, subst, INPUT_BYTES, Rose, AppendsFront, Lines, unread, first_lines-longer, Form, Crew, TextFault, lines_of}
 use Rattle.lx_desk.proofs.Imports.{over_show, fault_text, Reading, reads, lines_read, show_wanted, output_of, Loaded, ShowFault, reading_of, HasRead, Status}
 use Rattle.lx_desk.proofs.Imports.{WritesPrefix, RefusedBy, EndsJob, HasEnded, ServesOrWants, ServesNone, HasCrewEnded, WritesFirstLines, WritesCrewFront}
-use Rattle.lx_desk.proofs.Imports.{OperatorFailed, HasCrewCause, ToldBySource}
+use Rattle.lx_desk.proofs.Imports.{false, OperatorFailed, HasCrewCause, ToldBySource}
 use Rattle.lx_desk.specs.declared.desk.Status.TheVariants as status
 use Rattle.lx_desk.proofs.Inputs.{Says, IsOfShow, nothing_of_cut, means_of, told_fits, front_nothing, refusal_isnt_ok, if_known, both_known}
 use Rattle.lx_desk.proofs.Endings.{refusal_ends, refusal_ended}
@@ -19,7 +19,7 @@ module _ (form : Form) (count : ℕ) where
       refusal = λ x fault text. ap (λ r. over_show r (λ reading. [])) text;
       wanted = λ x fault text. refl;
       longer = λ x n h. first_lines-longer (n + 1) (lines_read (lines_of x)) x h;
-      cut = λ x left h i none short. nothing_of_cut form x left h i none short;
+      cut = λ ample x left h i none short. nothing_of_cut form x left h i none short;
     };
     output = λ x. refl;
     bytes = λ x. refl;
@@ -67,7 +67,7 @@ module _ (form : Form) (count : ℕ) where
       → unread told_in a ≡ o → a.taken ≡ 0 → Says form told_in a b fault → RefusedBy h h' fault s
       → IfSome o (λ x. HasCrewEnded told count form x (told_in.left b.source.now) operators operators h h' s)
   refused_ended told_in told a b o h h' operators fault s is none says by =
-      if_known o _ _ (refusal_ended form (Crew count form) (crew_tells.over) told_in a b o h h' fault s is none says by) (λ x e. inl (record {
+      if_known o _ _ (refusal_ended false form (Crew count form) (crew_tells.over) told_in a b o h h' fault s is none says by) (λ x e. inl (record {
         isnt_ok = λ ok. refusal_isnt_ok h h' fault s ⊥ by ok;
         isnt_live = λ live. subst EndsJob live (refusal_ends h h' fault s by);
         ended = e;

@@ -1,8 +1,8 @@
 -- What holds where a job ended, from what holds at each status.
 use Rattle.lx_desk.proofs.Imports.{◌≡◌, ◌⊎◌, inl, inr, true, false, Option, Some, None, IfSome, List, ℕ, refl, sym, ap, subst}
 use Rattle.lx_desk.proofs.Imports.{if◌then◌else◌, AppendsFront, Appends, Lines, unread, Form, Job, Script, ScriptKind, answering_of, opening_of, Reading}
-use Rattle.lx_desk.proofs.Imports.{Loaded, ShowFault, reading_of, HasRead, Status, RefusedBy, status_kept, AnswersWords, EndsJob, EndsScript, HasEnded}
-use Rattle.lx_desk.proofs.Imports.{HasPlayed, at_once, is_live, ToldBySource}
+use Rattle.lx_desk.proofs.Imports.{Loaded, ShowFault, reading_of, HasRead, Status, RefusedBy, status_kept, AnswersWords, EndsJob, EndsScript, HasEndedBy}
+use Rattle.lx_desk.proofs.Imports.{Bool, HasPlayed, at_once, is_live, ToldBySource}
 use Rattle.lx_reader.specs.declared.fault.ShowFault.TheVariants as faults
 use Rattle.lx_desk.specs.declared.desk.Status.TheVariants as status
 use Rattle.lx_desk.proofs.Inputs.{Says, IsOverShow, IsOfShow, told_text, told_prefix, told_fits, session_text, session_front}
@@ -29,68 +29,68 @@ pub refusal_ends : (h h' : Option (List ℕ)) (fault : ShowFault) (s : Status) �
 refusal_ends h h' fault s by = elim by [ inl text ↦ told_ends s status.ShowRefused tt text.kinds | inr other ↦ kept_is fault s (λ f t. EndsJob t) other.is tt tt tt ]
 
 -- what is told of a show that was read
-pub told_ended : (form : Form) {S : Type 0} (told : ToldBySource S) (a b : Lines S) (loaded : Loaded) (job : Job)
+pub told_ended : (ample : Bool) (form : Form) {S : Type 0} (told : ToldBySource S) (a b : Lines S) (loaded : Loaded) (job : Job)
     (f : Reading → List ℕ) → IsOfShow form job f → (o rest h h' : Option (List ℕ)) (s : Status)
     → unread told a ≡ o → a.taken ≡ 0 → HasRead told a b form loaded → (s ≡ status.Ok)
     ⊎ ((s ≡ status.WriteFault) ⊎ (s ≡ status.Memory))
     → (s ≡ status.Ok → Appends h h' (f (reading_of loaded))) → AppendsFront h h' (f (reading_of loaded))
-    → IfSome o (λ x. HasEnded s job x rest h h')
-told_ended form told a b loaded job f tells o rest h h' s is none r kinds whole front =
-    let prefix = told_prefix form told a b loaded job f tells o h h' is r front in
+    → IfSome o (λ x. HasEndedBy ample s job x rest h h')
+told_ended ample form told a b loaded job f tells o rest h h' s is none r kinds whole front =
+    let prefix = told_prefix form ample told a b loaded job f tells o h h' is r front in
     elim kinds [
-      | inl ok ↦ subst (λ t. IfSome o (λ x. HasEnded t job x rest h h')) (sym ok)
-          (both_known o _ _ _ (told_text form told a b loaded job f tells o h h' is r (whole ok))
+      | inl ok ↦ subst (λ t. IfSome o (λ x. HasEndedBy ample t job x rest h h')) (sym ok)
+          (both_known o _ _ _ (told_text form ample told a b loaded job f tells o h h' is r (whole ok))
           (told_fits form told a b loaded job f tells o is none r) (λ x text fits. (record { text = text.0; within = fits }, text.1)))
       | inr fault ↦ elim fault [
-        | inl write ↦ subst (λ t. IfSome o (λ x. HasEnded t job x rest h h')) (sym write) prefix
-        | inr memory ↦ subst (λ t. IfSome o (λ x. HasEnded t job x rest h h')) (sym memory) prefix
+        | inl write ↦ subst (λ t. IfSome o (λ x. HasEndedBy ample t job x rest h h')) (sym write) prefix
+        | inr memory ↦ subst (λ t. IfSome o (λ x. HasEndedBy ample t job x rest h h')) (sym memory) prefix
       ]
     ]
 
 -- a show that isn't read
-pub refusal_ended : (form : Form) (job : Job) → IsOverShow form job
+pub refusal_ended : (ample : Bool) (form : Form) (job : Job) → IsOverShow form job
     → {S : Type 0} (told : ToldBySource S) (a b : Lines S) (o h h' : Option (List ℕ)) (fault : ShowFault) (s : Status)
     → unread told a ≡ o → a.taken ≡ 0 → Says form told a b fault → RefusedBy h h' fault s
-    → IfSome o (λ x. HasEnded s job x (told.left b.source.now) h h')
-refusal_ended form job over told a b o h h' fault status.Ok is none says by = refusal_isnt_ok h h' fault status.Ok _ by refl
-refusal_ended form job over told a b o h h' fault status.ShowRefused is none says by =
-    both_known o _ _ _ (refusal_text form job over told a b o h h' fault status.ShowRefused is says by refl)
+    → IfSome o (λ x. HasEndedBy ample s job x (told.left b.source.now) h h')
+refusal_ended ample form job over told a b o h h' fault status.Ok is none says by = refusal_isnt_ok h h' fault status.Ok _ by refl
+refusal_ended ample form job over told a b o h h' fault status.ShowRefused is none says by =
+    both_known o _ _ _ (refusal_text form ample job over told a b o h h' fault status.ShowRefused is says by refl)
     (refusal_fits form job over told a b o h h' fault status.ShowRefused is none says by refl)
     (λ x text fits. (record { text = text.0; within = fits }, text.1))
-refusal_ended form job over told a b o h h' fault status.Usage is none says by = absurd (refusal_ends h h' fault status.Usage by)
-refusal_ended form job over told a b o h h' fault status.ReadFault is none says by =
-    refusal_cut form job over told a b o h h' fault status.ReadFault is none says by (inl refl)
-refusal_ended form job over told a b o h h' fault status.WriteFault is none says by =
-    refusal_front form job over told a b o h h' fault status.WriteFault is says by
-refusal_ended form job over told a b o h h' fault status.Memory is none says by =
-    refusal_front form job over told a b o h h' fault status.Memory is says by
-refusal_ended form job over told a b o h h' fault status.InputTooLong is none says by =
-    both_known o _ _ _ (refusal_cut form job over told a b o h h' fault status.InputTooLong is none says by (inr refl))
+refusal_ended ample form job over told a b o h h' fault status.Usage is none says by = absurd (refusal_ends h h' fault status.Usage by)
+refusal_ended ample form job over told a b o h h' fault status.ReadFault is none says by =
+    refusal_cut form ample job over told a b o h h' fault status.ReadFault is none says by (inl refl)
+refusal_ended ample form job over told a b o h h' fault status.WriteFault is none says by =
+    refusal_front form ample job over told a b o h h' fault status.WriteFault is says by
+refusal_ended ample form job over told a b o h h' fault status.Memory is none says by =
+    refusal_front form ample job over told a b o h h' fault status.Memory is says by
+refusal_ended ample form job over told a b o h h' fault status.InputTooLong is none says by =
+    both_known o _ _ _ (refusal_cut form ample job over told a b o h h' fault status.InputTooLong is none says by (inr refl))
     (refusal_long form job over told a b o h h' fault status.InputTooLong is none says by refl) (λ x cut long. (cut, long))
-refusal_ended form job over told a b o h h' fault status.Live is none says by = absurd (refusal_ends h h' fault status.Live by)
+refusal_ended ample form job over told a b o h h' fault status.Live is none says by = absurd (refusal_ends h h' fault status.Live by)
 
 -- a script over a show that was read
-pub script_ended : (form : Form) (kind : ScriptKind) {S : Type 0} (told : ToldBySource S) (a b : Lines S)
+pub script_ended : (ample : Bool) (form : Form) (kind : ScriptKind) {S : Type 0} (told : ToldBySource S) (a b : Lines S)
     (loaded : Loaded) (o rest h h' : Option (List ℕ)) (s : Status)
     → unread told a ≡ o → a.taken ≡ 0 → HasRead told a b form loaded → EndsScript s
-    → IfSome (unread told b) (λ y. HasPlayed s (answering_of kind) (opening_of kind loaded.show) b.taken y rest h h')
-    → IfSome o (λ x. HasEnded s (Script kind form) x rest h h')
-script_ended form kind told a b loaded o rest h h' status.Ok is none r ends p =
-    both_known o _ _ _ (session_text form kind told a b loaded o h h' is r (if_known (unread told b) _ _ p (λ y q. q.0)))
+    → IfSome (unread told b) (λ y. HasPlayed ample s (answering_of kind) (opening_of kind loaded.show) b.taken y rest h h')
+    → IfSome o (λ x. HasEndedBy ample s (Script kind form) x rest h h')
+script_ended ample form kind told a b loaded o rest h h' status.Ok is none r ends p =
+    both_known o _ _ _ (session_text form ample kind told a b loaded o h h' is r (if_known (unread told b) _ _ p (λ y q. q.0)))
     (session_fits form told a b loaded o is none r (if_known (unread told b) _ _ p (λ y q. q.1)))
     (λ x text fits. (record { text = text.0; within = fits }, text.1))
-script_ended form kind told a b loaded o rest h h' status.ShowRefused is none r ends p = absurd ends
-script_ended form kind told a b loaded o rest h h' status.Usage is none r ends p = absurd ends
-script_ended form kind told a b loaded o rest h h' status.ReadFault is none r ends p =
-    session_cut form kind told a b loaded o rest h h' is none r p
-script_ended form kind told a b loaded o rest h h' status.WriteFault is none r ends p =
-    session_front form kind told a b loaded o h h' is r p
-script_ended form kind told a b loaded o rest h h' status.Memory is none r ends p =
-    session_front form kind told a b loaded o h h' is r p
-script_ended form kind told a b loaded o rest h h' status.InputTooLong is none r ends p =
-    both_known o _ _ _ (session_cut form kind told a b loaded o rest h h' is none r (if_known (unread told b) _ _ p (λ y q. q.0)))
+script_ended ample form kind told a b loaded o rest h h' status.ShowRefused is none r ends p = absurd ends
+script_ended ample form kind told a b loaded o rest h h' status.Usage is none r ends p = absurd ends
+script_ended ample form kind told a b loaded o rest h h' status.ReadFault is none r ends p =
+    session_cut form ample kind told a b loaded o rest h h' is none r p
+script_ended ample form kind told a b loaded o rest h h' status.WriteFault is none r ends p =
+    session_front form ample kind told a b loaded o h h' is r p
+script_ended ample form kind told a b loaded o rest h h' status.Memory is none r ends p =
+    session_front form ample kind told a b loaded o h h' is r p
+script_ended ample form kind told a b loaded o rest h h' status.InputTooLong is none r ends p =
+    both_known o _ _ _ (session_cut form ample kind told a b loaded o rest h h' is none r (if_known (unread told b) _ _ p (λ y q. q.0)))
     (session_long form told a b loaded o is none r (if_known (unread told b) _ _ p (λ y q. q.1))) (λ x cut long. (cut, long))
-script_ended form kind told a b loaded o rest h h' status.Live is none r ends p = absurd ends
+script_ended ample form kind told a b loaded o rest h h' status.Live is none r ends p = absurd ends
 
 -- the words of a script that is played here, and of one that isn't
 pub words_here : {I O : Type 0} (kind : ScriptKind) (form : Form) (s : Status) (input input' : I) (output output' : O) → is_live kind ≡ false
@@ -112,3 +112,8 @@ words_live kind form input output live = record {
       (inl refl, (refl, refl));
   only = λ is. at_once_live kind form live;
 }
+
+pub ended_live : (o : Option (List ℕ)) (kind : ScriptKind) (form : Form) → is_live kind ≡ true
+    → IfSome o (λ bytes. at_once (Some (Script kind form)) ≡ Some status.Live)
+ended_live None kind form live = tt
+ended_live (Some bytes) kind form live = at_once_live kind form live

@@ -1,7 +1,7 @@
 -- What the end of a job says of the counts and of what is kept back, from the ends of its calls.
 use Rattle.lx_desk.proofs.Imports.{◌≡◌, ◌⊎◌, inl, inr, ℕ, Result, Ok, Err, OnOk, Option, List, [], ◌∙◌, sym, ◌≢◌, Lines, ShowFault}
 use Rattle.lx_desk.proofs.Imports.{SessionFault, Tally, HasSessionCause, Status, status_for, RefusedBy, status_kept, IsDone, Finishes, HasWanted}
-use Rattle.lx_desk.proofs.Imports.{ToldBySink, ToldBySource}
+use Rattle.lx_desk.proofs.Imports.{ToldBySink, ToldBySource, Rose, WantsMemory, ◌≤◌, arith}
 use Rattle.lx_reader.specs.declared.fault.ShowFault.TheVariants as shows
 use Rattle.lx_session.specs.declared.fault.SessionFault.TheVariants as faults
 use Rattle.lx_desk.specs.declared.desk.Status.TheVariants as status
@@ -37,6 +37,9 @@ after_reads reads reads' reads'' told output output' s before f = record {
   handed_on = f.handed_on;
 }
 
+rose_since : (first before after : ℕ) → first ≤ before → Rose before after → Rose first after
+rose_since first before after held rose = omega (arith, held, rose)
+
 -- a session
 pub session_finishes : {S K : Type 0} (told_in : ToldBySource S) (told_out : ToldBySink K) (old new : Lines S) (sink sink' : K)
     (r : Result Tally SessionFault) → HasSessionCause told_in told_out old new sink sink' r → OnOk r (told_out.back sink' ≡ [])
@@ -59,6 +62,41 @@ session_wants told_in told_out old new sink sink' (Err faults.ReadFault) c = λ 
 session_wants told_in told_out old new sink sink' (Err faults.WriteFault) c = λ is. cc
 session_wants told_in told_out old new sink sink' (Err faults.InputTooLong) c = λ is. cc
 session_wants told_in told_out old new sink sink' (Err faults.Memory) c = λ is. inr c.failed
+
+pub session_wanted : {S K : Type 0} (told_in : ToldBySource S) (told_out : ToldBySink K) (before after : ℕ) (old new : Lines S) (sink sink' : K)
+    (r : Result Tally SessionFault) → HasSessionCause told_in told_out old new sink sink' r
+    → WantsMemory told_out before after sink sink' (status_for r)
+session_wanted told_in told_out before after old new sink sink' (Ok tally) c = λ is. cc
+session_wanted told_in told_out before after old new sink sink' (Err faults.ReadFault) c = λ is. cc
+session_wanted told_in told_out before after old new sink sink' (Err faults.WriteFault) c = λ is. cc
+session_wanted told_in told_out before after old new sink sink' (Err faults.InputTooLong) c = λ is. cc
+session_wanted told_in told_out before after old new sink sink' (Err faults.Memory) c = λ is. inr c.failed
+
+-- what wanted memory by the last of a heap's calls did so by all
+pub wanted_since : {K : Type 0} (told : ToldBySink K) (first before after : ℕ) (output output' : K) (s : Status) → first ≤ before
+    → WantsMemory told before after output output' s → WantsMemory told first after output output' s
+wanted_since told first before after output output' s held wanted = λ is. elim (wanted is) [
+  | inl refused ↦ inl (rose_since first before after held refused)
+  | inr sink ↦ inr sink
+]
+
+-- a session whose sink never is out of memory
+pub never_wanted : {S K : Type 0} (told_in : ToldBySource S) (told_out : ToldBySink K) (old new : Lines S) (sink sink' : K)
+    (fault : SessionFault) → told_out.wants sink' ≡ 0 → HasSessionCause {T = Tally} told_in told_out old new sink sink' (Err fault)
+    → status_for {A = Tally} (Err fault) ≡ status.Memory → ⊥
+never_wanted told_in told_out old new sink sink' faults.ReadFault none c is = cc
+never_wanted told_in told_out old new sink sink' faults.WriteFault none c is = cc
+never_wanted told_in told_out old new sink sink' faults.InputTooLong none c is = cc
+never_wanted told_in told_out old new sink sink' faults.Memory none c is = omega (arith, none, c.failed)
+
+-- a show that wasn't read for want of memory
+pub refusal_wanted : {K : Type 0} (told : ToldBySink K) (before after : ℕ) (output output' : K) (fault : ShowFault) (s : Status)
+    → (fault ≡ shows.Memory → Rose before after) → (s ≡ status.Memory → (fault ≡ shows.Memory) ⊎ Rose (told.wants output) (told.wants output'))
+    → WantsMemory told before after output output' s
+refusal_wanted told before after output output' fault s refused wanted = λ is. elim (wanted is) [
+  | inl memory ↦ inl (refused memory)
+  | inr sink ↦ inr sink
+]
 
 -- a show that isn't read
 pub other_not_done : (fault : ShowFault) (s : Status) → status_kept fault s → IsDone s → ⊥

@@ -9,15 +9,17 @@ pub use Rattle.lx_console.specs.ConsoleMeaning.{StandsFor}
 pub use Rattle.lx_crew.specs.declared.fault.OperatorFault.{OperatorFault}
 pub use Rattle.lx_desk.specs.Crew.{HasCrewCause, HasCrewEnded, IsLowest, KeepsPlaces, OperatorFailed, Serves, ServesNone, ServesOrWants, TellsCrew}
 pub use Rattle.lx_desk.specs.Crew.{TellsOperators, WritesCrewFront, WritesFirstLines, WritesLines, WritesTranscript}
-pub use Rattle.lx_desk.specs.Endings.{AnswersWords, at_once, EndsJob, EndsScript, HasCauseOf, HasEnded, HasPlayed, is_live, WritesWhole}
+pub use Rattle.lx_desk.specs.Endings.{AnswersWords, at_once, EndsJob, EndsScript, HasCauseOf, HasEnded, HasEndedBy, HasPlayed, is_live}
+pub use Rattle.lx_desk.specs.Endings.{WritesWhole}
 pub use Rattle.lx_desk.specs.Faults.{status_for}
-pub use Rattle.lx_desk.specs.Finished.{Finishes, HasWanted, IsDone}
+pub use Rattle.lx_desk.specs.Finished.{ByMemory, Finishes, HasWanted, IsDone, WantsMemory}
 pub use Rattle.lx_desk.specs.Generator.{after_cue, after_setting, after_turn, chan_text, drawn_cue, drawn_cue_text, made_show, set_text, setting_from}
 pub use Rattle.lx_desk.specs.Generator.{turn_from, turn_text}
 pub use Rattle.lx_desk.specs.Live.{ArePlayed, AreServed, DecidesInOrder, HasFailedOutlet, HasLiveCause, HasLived, HasPlayedLive, HaveGot, HaveVersions}
 pub use Rattle.lx_desk.specs.Live.{LacksMemory, live_after, live_session, LiveAllows, LivesInFront, LivesTaken, LivesToEnd, OutletFailed, PlaysInFront}
 pub use Rattle.lx_desk.specs.Live.{PlaysScript, PlaysTaken, PlaysToEnd, PlaysWhole, TellsOutlets, TellsRun}
-pub use Rattle.lx_desk.specs.Output.{AnswersInFront, AnswersScript, AnswersTaken, NothingOfCut, RepliesToTaken, WritesAll, WritesPrefix, WritesTaken}
+pub use Rattle.lx_desk.specs.Output.{AnswersInFront, AnswersScript, AnswersTaken, JobFailures, NothingOfCut, RepliesToTaken, ScriptFailures, WritesAll}
+pub use Rattle.lx_desk.specs.Output.{WritesFront, WritesPrefix, WritesTaken}
 pub use Rattle.lx_desk.specs.Plays.{Plays}
 pub use Rattle.lx_desk.specs.ShowRefusal.{RefusedBy, RefusesText, status_kept}
 pub use Rattle.lx_desk.specs.declared.desk.Status.{Status}
@@ -35,9 +37,11 @@ pub use Rattle.lx_reader.specs.declared.fault.ShowFault.{ShowFault}
 pub use Rattle.lx_reader.specs.declared.loaded.Loaded.{Loaded}
 pub use Rattle.lx_session.proofs.HeardLines.{desk_lawful}
 pub use Rattle.lx_session.proofs.ScriptEnds.{first_of_whole, front_of_whole}
+pub use Rattle.lx_session.proofs.Stood.{spared_lawful, stood_since, stood_until}
 pub use Rattle.lx_session.specs.Listening.{HasDone}
 pub use Rattle.lx_session.specs.ScriptAnswer.{AnsweredPrefix, AnsweredTaken, AnsweredWhole, ScriptAnswered}
 pub use Rattle.lx_session.specs.SessionOutcome.{HasSessionCause, KeepsLimit}
+pub use Rattle.lx_session.specs.Spared.{HasStood, spared}
 pub use Rattle.lx_session.specs.declared.fault.SessionFault.{SessionFault}
 pub use Rattle.lx_session.specs.declared.tally.Tally.{Tally}
 pub use Rattle.lx_spec.specs.CheckOutput.{check_text}

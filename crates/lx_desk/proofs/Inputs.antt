@@ -6,8 +6,9 @@ use Rattle.lx_desk.proofs.Imports.{Lines, LinesBetween, unread, first_lines-more
 use Rattle.lx_desk.proofs.Imports.{lines_read, HasNoFeed, feeds, first_lines, answering_of, opening_of, script_session, first_replies, input_lines_wanted}
 use Rattle.lx_desk.proofs.Imports.{input_wanted, ScriptAllows, over_show, fault_text, Answering, whole_session, session_after, Allows, lines_wanted}
 use Rattle.lx_desk.proofs.Imports.{bytes_wanted, Loaded, ShowFault, reading_of, HasRead, OfText, CutShort, Status, Job, Check, Sheet, Script, ScriptKind}
-use Rattle.lx_desk.proofs.Imports.{check_text, sheet_text, show_of, output_of, JobAllows, wanted_of, show_wanted, WritesAll, WritesPrefix, WritesTaken}
+use Rattle.lx_desk.proofs.Imports.{check_text, sheet_text, show_of, output_of, JobAllows, wanted_of, show_wanted, WritesAll, WritesTaken}
 use Rattle.lx_desk.proofs.Imports.{RepliesToTaken, NothingOfCut, AnswersScript, AnswersInFront, AnswersTaken, RefusedBy, status_kept, ToldBySource}
+use Rattle.lx_desk.proofs.Imports.{Bool, WritesFront, JobFailures, ScriptFailures}
 use Rattle.std.proofs.KnownBytes.{Appends-nil}
 use Rattle.lx_lex.proofs.TakenLines.{lines_within, fed_then}
 use Rattle.lx_reader.specs.declared.fault.ShowFault.TheVariants as faults
@@ -27,13 +28,22 @@ pub none_failed : (kind : ScriptKind) (bytes : List ℕ) (r : Result Reading Tex
 none_failed kind bytes (Ok reading) = tt
 none_failed kind bytes (Err fault) = tt
 
+-- and that is so where memory was ample, too
+pub none_of_job : (ample : Bool) (job : Job) (bytes : List ℕ) → JobAllows job bytes [] → JobFailures ample job bytes []
+none_of_job true job bytes allows = refl
+none_of_job false job bytes allows = allows
+
+pub none_of_script : (ample : Bool) (by : Answering (List ℕ)) (state : by.State) (script : List (List ℕ)) → ScriptFailures ample by state script []
+none_of_script true by state script = refl
+none_of_script false by state script = tt
+
 -- where nothing was written, a prefix of the replies was
-pub nothing_answered : (by : Answering (List ℕ)) (state : by.State) (o a : Option (List ℕ))
-    → IfSome o (λ bytes. AnswersInFront by state (lines_of bytes) a a)
-nothing_answered by state None a = tt
-nothing_answered by state (Some bytes) a = record {
+pub nothing_answered : (ample : Bool) (by : Answering (List ℕ)) (state : by.State) (o a : Option (List ℕ))
+    → IfSome o (λ bytes. AnswersInFront ample by state (lines_of bytes) a a)
+nothing_answered ample by state None a = tt
+nothing_answered ample by state (Some bytes) a = record {
   failures = [];
-  allows = tt;
+  allows = none_of_script ample by state (lines_of bytes);
   text = front_nothing a (whole_session by state (lines_of bytes) []).text;
 }
 
@@ -81,34 +91,36 @@ module _ (form : Form) where
   output_at kind x failures reading read = ap (λ r. over_show r (λ reading. (script_session kind x failures reading).text)) read
 
   -- and at which attempts it may fail
-  allows_at : (kind : ScriptKind) (x : List ℕ) (failures : List (Option ℕ)) (reading : Reading) → reads form x ≡ Ok reading
-      → Allows (answering_of kind) (opening_of kind reading.show) (script_of x) failures → JobAllows (Script kind form) x failures
-  allows_at kind x failures reading read allows = subst (λ r. ScriptAllows kind x failures r) (sym read) allows
+  allows_at : (ample : Bool) (kind : ScriptKind) (x : List ℕ) (failures : List (Option ℕ)) (reading : Reading) → reads form x ≡ Ok reading
+      → ScriptFailures ample (answering_of kind) (opening_of kind reading.show) (script_of x) failures
+      → JobFailures ample (Script kind form) x failures
+  allows_at true kind x failures reading read none = none
+  allows_at false kind x failures reading read allows = subst (λ r. ScriptAllows kind x failures r) (sym read) allows
 
   -- what the session answered is what the program writes
-  answer_at : (kind : ScriptKind) (x y : List ℕ) (reading : Reading) (h h' : Option (List ℕ)) → reads form x ≡ Ok reading
-      → script_of x ≡ lines_of y → AnswersScript (answering_of kind) (opening_of kind reading.show) (lines_of y) h h'
-      → WritesAll (Script kind form) x h h' × IsOk (show_of (Script kind form) x)
-  answer_at kind x y reading h h' read script answered =
-      let a : AnswersScript (answering_of kind) (opening_of kind reading.show) (script_of x) h h' =
-      subst (λ ls. AnswersScript (answering_of kind) (opening_of kind reading.show) ls h h') (sym script) answered in (
+  answer_at : (ample : Bool) (kind : ScriptKind) (x y : List ℕ) (reading : Reading) (h h' : Option (List ℕ)) → reads form x ≡ Ok reading
+      → script_of x ≡ lines_of y → AnswersScript ample (answering_of kind) (opening_of kind reading.show) (lines_of y) h h'
+      → WritesAll ample (Script kind form) x h h' × IsOk (show_of (Script kind form) x)
+  answer_at ample kind x y reading h h' read script answered =
+      let a : AnswersScript ample (answering_of kind) (opening_of kind reading.show) (script_of x) h h' =
+      subst (λ ls. AnswersScript ample (answering_of kind) (opening_of kind reading.show) ls h h') (sym script) answered in (
         record {
           failures = a.failures;
-          allows = allows_at kind x a.failures reading read a.allows;
+          allows = allows_at ample kind x a.failures reading read a.allows;
           text = subst (λ (t : List ℕ). Appends h h' t) (sym (output_at kind x a.failures reading read)) a.text;
         },
         subst (λ (r : Result Reading TextFault). IsOk r) (sym read) refl,
       )
 
-  front_at : (kind : ScriptKind) (x y : List ℕ) (reading : Reading) (h h' : Option (List ℕ)) → reads form x ≡ Ok reading
-      → script_of x ≡ lines_of y → AnswersInFront (answering_of kind) (opening_of kind reading.show) (lines_of y) h h'
-      → WritesPrefix (Script kind form) x h h'
-  front_at kind x y reading h h' read script answered =
-      let a : AnswersInFront (answering_of kind) (opening_of kind reading.show) (script_of x) h h' =
-      subst (λ ls. AnswersInFront (answering_of kind) (opening_of kind reading.show) ls h h') (sym script) answered in
+  front_at : (ample : Bool) (kind : ScriptKind) (x y : List ℕ) (reading : Reading) (h h' : Option (List ℕ)) → reads form x ≡ Ok reading
+      → script_of x ≡ lines_of y → AnswersInFront ample (answering_of kind) (opening_of kind reading.show) (lines_of y) h h'
+      → WritesFront ample (Script kind form) x h h'
+  front_at ample kind x y reading h h' read script answered =
+      let a : AnswersInFront ample (answering_of kind) (opening_of kind reading.show) (script_of x) h h' =
+      subst (λ ls. AnswersInFront ample (answering_of kind) (opening_of kind reading.show) ls h h') (sym script) answered in
       record {
         failures = a.failures;
-        allows = allows_at kind x a.failures reading read a.allows;
+        allows = allows_at ample kind x a.failures reading read a.allows;
         text = subst (λ (t : List ℕ). AppendsFront h h' t) (sym (output_at kind x a.failures reading read)) a.text;
       }
 
@@ -137,21 +149,23 @@ module _ (form : Form) where
       m.handed.took (one_more m.front m.last) m.wanted m.text m.script p
       (λ x y took shown text script q. f x y (m.front ++ m.last ∷ []) took shown text script q))
 
-  pub session_text : (kind : ScriptKind) {S : Type 0} (told : ToldBySource S) (a b : Lines S) (loaded : Loaded)
+  pub session_text : (ample : Bool) (kind : ScriptKind) {S : Type 0} (told : ToldBySource S) (a b : Lines S) (loaded : Loaded)
       (o h h' : Option (List ℕ)) → unread told a ≡ o → HasRead told a b form loaded
-      → IfSome (unread told b) (λ bytes. AnswersScript (answering_of kind) (opening_of kind loaded.show) (lines_of bytes) h h')
-      → IfSome o (λ bytes. WritesAll (Script kind form) bytes h h' × IsOk (show_of (Script kind form) bytes))
-  session_text kind told a b loaded o h h' is r answers =
-      over_loaded told a b loaded o (λ bytes. AnswersScript (answering_of kind) (opening_of kind loaded.show) (lines_of bytes) h h') _ is r answers
-      (λ x y raws took shown read script answer. answer_at kind x y (reading_of loaded) h h' read script answer)
+      → IfSome (unread told b) (λ bytes. AnswersScript ample (answering_of kind) (opening_of kind loaded.show) (lines_of bytes) h h')
+      → IfSome o (λ bytes. WritesAll ample (Script kind form) bytes h h' × IsOk (show_of (Script kind form) bytes))
+  session_text ample kind told a b loaded o h h' is r answers =
+      over_loaded told a b loaded o (λ bytes. AnswersScript ample (answering_of kind) (opening_of kind loaded.show) (lines_of bytes) h h') _ is r
+      answers
+      (λ x y raws took shown read script answer. answer_at ample kind x y (reading_of loaded) h h' read script answer)
 
-  pub session_front : (kind : ScriptKind) {S : Type 0} (told : ToldBySource S) (a b : Lines S) (loaded : Loaded)
+  pub session_front : (ample : Bool) (kind : ScriptKind) {S : Type 0} (told : ToldBySource S) (a b : Lines S) (loaded : Loaded)
       (o h h' : Option (List ℕ)) → unread told a ≡ o → HasRead told a b form loaded
-      → IfSome (unread told b) (λ bytes. AnswersInFront (answering_of kind) (opening_of kind loaded.show) (lines_of bytes) h h')
-      → IfSome o (λ bytes. WritesPrefix (Script kind form) bytes h h')
-  session_front kind told a b loaded o h h' is r answers =
-      over_loaded told a b loaded o (λ bytes. AnswersInFront (answering_of kind) (opening_of kind loaded.show) (lines_of bytes) h h') _ is r answers
-      (λ x y raws took shown read script answer. front_at kind x y (reading_of loaded) h h' read script answer)
+      → IfSome (unread told b) (λ bytes. AnswersInFront ample (answering_of kind) (opening_of kind loaded.show) (lines_of bytes) h h')
+      → IfSome o (λ bytes. WritesFront ample (Script kind form) bytes h h')
+  session_front ample kind told a b loaded o h h' is r answers =
+      over_loaded told a b loaded o (λ bytes. AnswersInFront ample (answering_of kind) (opening_of kind loaded.show) (lines_of bytes) h h') _ is r
+      answers
+      (λ x y raws took shown read script answer. front_at ample kind x y (reading_of loaded) h h' read script answer)
 
   -- of a show that is read the lines that were handed out are wanted, and then those of the script
   pub wanted_read : (x y : List ℕ) (i j : ℕ) (raws : List (List ℕ)) (reading : Reading) → i ≡ 0 → LinesBetween (Some x) (Some y) i j raws
@@ -193,11 +207,11 @@ module _ (form : Form) where
   fed_behind all xs ys y z m n k e is p q took = subst (λ (v : List ℕ). (feeds v ≡ k) ⊎ (z ≡ [])) (sym is) (fed_then xs ys y z m n k e p q took)
 
   -- The script was cut off behind a show that was read.
-  cut_behind : (kind : ScriptKind) (x y : List ℕ) (left h h' : Option (List ℕ)) (i j : ℕ) (raws : List (List ℕ)) (reading : Reading)
+  cut_behind : (ample : Bool) (kind : ScriptKind) (x y : List ℕ) (left h h' : Option (List ℕ)) (i j : ℕ) (raws : List (List ℕ)) (reading : Reading)
       → i ≡ 0 → LinesBetween (Some x) (Some y) i j raws → lines_read (lines_of x) ≡ length raws → reads form x ≡ Ok reading
-      → script_of x ≡ lines_of y → AnswersTaken (answering_of kind) (opening_of kind reading.show) j y left h h'
-      → RepliesToTaken (Script kind form) x left h h'
-  cut_behind kind x y left h h' i j raws reading none took shown text script a =
+      → script_of x ≡ lines_of y → AnswersTaken ample (answering_of kind) (opening_of kind reading.show) j y left h h'
+      → RepliesToTaken ample (Script kind form) x left h h'
+  cut_behind ample kind x y left h h' i j raws reading none took shown text script a =
       let n = a.cut.lines in
       let mine : took.bytes ≡ first_lines (length raws) (took.bytes ++ y) = took.front ∙ ap (first_lines (length raws)) took.took in
       let first : first_lines (length raws + n) x ≡ took.bytes ++ first_lines n y = ap (first_lines (length raws + n)) took.took
@@ -207,8 +221,8 @@ module _ (form : Form) where
       let done : length raws + n - lines_read (lines_of x) ≡ n = omega (arith, shown) in
       record {
         failures = a.failures;
-        allows = allows_at kind x a.failures reading text
-            (subst (λ ls. Allows (answering_of kind) (opening_of kind reading.show) ls a.failures) (sym script) a.allows);
+        allows = allows_at ample kind x a.failures reading text
+            (subst (λ ls. ScriptFailures ample (answering_of kind) (opening_of kind reading.show) ls a.failures) (sym script) a.allows);
         cut = record {
           lines = length raws + n;
           next = a.cut.next;
@@ -232,15 +246,15 @@ module _ (form : Form) where
             ∙ ap (λ ls. (session_after (answering_of kind) (opening_of kind reading.show) ls a.failures n).text) script)) a.text;
       }
 
-  pub session_cut : (kind : ScriptKind) {S : Type 0} (told : ToldBySource S) (a b : Lines S) (loaded : Loaded)
+  pub session_cut : (ample : Bool) (kind : ScriptKind) {S : Type 0} (told : ToldBySource S) (a b : Lines S) (loaded : Loaded)
       (o rest h h' : Option (List ℕ)) → unread told a ≡ o → a.taken ≡ 0 → HasRead told a b form loaded
-      → IfSome (unread told b) (λ y. AnswersTaken (answering_of kind) (opening_of kind loaded.show) b.taken y rest h h')
-      → IfSome o (λ x. WritesTaken (Script kind form) x rest h h')
-  session_cut kind told a b loaded o rest h h' is none r answers =
-      over_loaded told a b loaded o (λ y. AnswersTaken (answering_of kind) (opening_of kind loaded.show) b.taken y rest h h') _ is r
+      → IfSome (unread told b) (λ y. AnswersTaken ample (answering_of kind) (opening_of kind loaded.show) b.taken y rest h h')
+      → IfSome o (λ x. WritesTaken ample (Script kind form) x rest h h')
+  session_cut ample kind told a b loaded o rest h h' is none r answers =
+      over_loaded told a b loaded o (λ y. AnswersTaken ample (answering_of kind) (opening_of kind loaded.show) b.taken y rest h h') _ is r
       answers
       (λ x y raws took shown read script answer.
-      cut_behind kind x y rest h h' a.taken b.taken raws (reading_of loaded) none took shown read script answer)
+      cut_behind ample kind x y rest h h' a.taken b.taken raws (reading_of loaded) none took shown read script answer)
 
   -- the replies to no line, where no attempt failed
   none_replied : (kind : ScriptKind) (x : List ℕ) (r : Result Reading TextFault) → first_replies kind x [] 0 r ≡ []
@@ -248,14 +262,14 @@ module _ (form : Form) where
   none_replied kind x (Err fault) = refl
 
   -- The input was cut off within the show.
-  cut_within : (kind : ScriptKind) (x : List ℕ) (left h : Option (List ℕ)) (i : ℕ) → i ≡ 0 → IsCutShort i x left
-      → RepliesToTaken (Script kind form) x left h h
-  cut_within kind x left h i none short =
+  cut_within : (ample : Bool) (kind : ScriptKind) (x : List ℕ) (left h : Option (List ℕ)) (i : ℕ) → i ≡ 0 → IsCutShort i x left
+      → RepliesToTaken ample (Script kind form) x left h h
+  cut_within ample kind x left h i none short =
       let cut = short.cut in
       let few : cut.lines - lines_read (lines_of x) ≡ 0 = let lt = short.wanted in omega (arith, lt) in
       record {
         failures = [];
-        allows = none_failed kind x (reads form x);
+        allows = none_of_job ample (Script kind form) x (none_failed kind x (reads form x));
         cut = record {
           lines = cut.lines;
           next = cut.next;
@@ -285,7 +299,7 @@ module _ (form : Form) where
     pub refusal : (x : List ℕ) (fault : TextFault) → reads form x ≡ Err fault → output_of job x [] ≡ fault_text fault
     pub wanted : (x : List ℕ) (fault : TextFault) → reads form x ≡ Err fault → wanted_of job x ≡ show_wanted x
     pub longer : (x : List ℕ) (n : ℕ) → n + 1 ≤ lines_read (lines_of x) → length (first_lines (n + 1) x) ≤ length (wanted_of job x)
-    pub cut : (x : List ℕ) (left h : Option (List ℕ)) (i : ℕ) → i ≡ 0 → IsCutShort i x left → WritesTaken job x left h h
+    pub cut : (ample : Bool) (x : List ℕ) (left h : Option (List ℕ)) (i : ℕ) → i ≡ 0 → IsCutShort i x left → WritesTaken ample job x left h h
 
   -- And a job that tells of the show alone.
   pub record IsOfShow (job : Job) (f : Reading → List ℕ) : Type 0 where
@@ -301,7 +315,7 @@ module _ (form : Form) where
     refusal = λ x fault text. ap (λ r. over_show r (λ reading. (script_session kind x [] reading).text)) text;
     wanted = λ x fault text. ap (λ k. first_lines k x) (ap (input_lines_wanted x) text);
     longer = λ x n h. first_lines-longer (n + 1) (input_lines_wanted x (reads form x)) x (more_wanted x n (reads form x) h);
-    cut = λ x left h i none short. cut_within kind x left h i none short;
+    cut = λ ample x left h i none short. cut_within ample kind x left h i none short;
   }
 
   pub check_tells : IsOfShow (Check form) check_text
@@ -312,7 +326,7 @@ module _ (form : Form) where
       refusal = λ x fault text. ap (λ r. over_show r check_text) text;
       wanted = λ x fault text. refl;
       longer = λ x n h. first_lines-longer (n + 1) (lines_read (lines_of x)) x h;
-      cut = λ x left h i none short. nothing_of_cut x left h i none short;
+      cut = λ ample x left h i none short. nothing_of_cut x left h i none short;
     };
     output = λ x. refl;
     bytes = λ x. refl;
@@ -326,51 +340,51 @@ module _ (form : Form) where
       refusal = λ x fault text. ap (λ r. over_show r sheet_text) text;
       wanted = λ x fault text. refl;
       longer = λ x n h. first_lines-longer (n + 1) (lines_read (lines_of x)) x h;
-      cut = λ x left h i none short. nothing_of_cut x left h i none short;
+      cut = λ ample x left h i none short. nothing_of_cut x left h i none short;
     };
     output = λ x. refl;
     bytes = λ x. refl;
   }
 
   -- a prefix of nothing was written
-  pub nothing_written : (job : Job) → IsOverShow job → (o a : Option (List ℕ)) → IfSome o (λ bytes. WritesPrefix job bytes a a)
-  nothing_written job over None a = tt
-  nothing_written job over (Some bytes) a =
-      record { failures = []; allows = over.nothing bytes; text = front_nothing a (output_of job bytes []) }
+  pub nothing_written : (ample : Bool) (job : Job) → IsOverShow job → (o a : Option (List ℕ)) → IfSome o (λ bytes. WritesFront ample job bytes a a)
+  nothing_written ample job over None a = tt
+  nothing_written ample job over (Some bytes) a =
+      record { failures = []; allows = none_of_job ample job bytes (over.nothing bytes); text = front_nothing a (output_of job bytes []) }
 
   -- What is told of a show that was read.
-  told_at : (job : Job) (f : Reading → List ℕ) → IsOfShow job f → (x : List ℕ) (h h' : Option (List ℕ)) (reading : Reading)
-      → reads form x ≡ Ok reading → Appends h h' (f reading) → WritesAll job x h h' × IsOk (show_of job x)
-  told_at job f tells x h h' reading read text = (
+  told_at : (ample : Bool) (job : Job) (f : Reading → List ℕ) → IsOfShow job f → (x : List ℕ) (h h' : Option (List ℕ)) (reading : Reading)
+      → reads form x ≡ Ok reading → Appends h h' (f reading) → WritesAll ample job x h h' × IsOk (show_of job x)
+  told_at ample job f tells x h h' reading read text = (
     record {
       failures = [];
-      allows = tells.over.nothing x;
+      allows = none_of_job ample job x (tells.over.nothing x);
       text = subst (λ (t : List ℕ). Appends h h' t) (sym (tells.output x ∙ ap (λ r. over_show r f) read)) text;
     },
     subst (λ (r : Result Reading TextFault). IsOk r) (sym (tells.over.show x ∙ read)) refl,
   )
 
-  told_front_at : (job : Job) (f : Reading → List ℕ) → IsOfShow job f → (x : List ℕ) (h h' : Option (List ℕ)) (reading : Reading)
-      → reads form x ≡ Ok reading → AppendsFront h h' (f reading) → WritesPrefix job x h h'
-  told_front_at job f tells x h h' reading read text = record {
+  told_front_at : (ample : Bool) (job : Job) (f : Reading → List ℕ) → IsOfShow job f → (x : List ℕ) (h h' : Option (List ℕ)) (reading : Reading)
+      → reads form x ≡ Ok reading → AppendsFront h h' (f reading) → WritesFront ample job x h h'
+  told_front_at ample job f tells x h h' reading read text = record {
     failures = [];
-    allows = tells.over.nothing x;
+    allows = none_of_job ample job x (tells.over.nothing x);
     text = subst (λ (t : List ℕ). AppendsFront h h' t) (sym (tells.output x ∙ ap (λ r. over_show r f) read)) text;
   }
 
-  pub told_text : {S : Type 0} (told : ToldBySource S) (a b : Lines S) (loaded : Loaded) (job : Job)
+  pub told_text : (ample : Bool) {S : Type 0} (told : ToldBySource S) (a b : Lines S) (loaded : Loaded) (job : Job)
       (f : Reading → List ℕ) → IsOfShow job f → (o h h' : Option (List ℕ)) → unread told a ≡ o → HasRead told a b form loaded
-      → Appends h h' (f (reading_of loaded)) → IfSome o (λ x. WritesAll job x h h' × IsOk (show_of job x))
-  told_text told a b loaded job f tells o h h' is r text =
-      subst (λ (v : Option (List ℕ)). IfSome v (λ x. WritesAll job x h h' × IsOk (show_of job x))) is
-      (if_known (unread told a) _ _ r.means.text (λ x read. told_at job f tells x h h' (reading_of loaded) read text))
+      → Appends h h' (f (reading_of loaded)) → IfSome o (λ x. WritesAll ample job x h h' × IsOk (show_of job x))
+  told_text ample told a b loaded job f tells o h h' is r text =
+      subst (λ (v : Option (List ℕ)). IfSome v (λ x. WritesAll ample job x h h' × IsOk (show_of job x))) is
+      (if_known (unread told a) _ _ r.means.text (λ x read. told_at ample job f tells x h h' (reading_of loaded) read text))
 
-  pub told_prefix : {S : Type 0} (told : ToldBySource S) (a b : Lines S) (loaded : Loaded) (job : Job)
+  pub told_prefix : (ample : Bool) {S : Type 0} (told : ToldBySource S) (a b : Lines S) (loaded : Loaded) (job : Job)
       (f : Reading → List ℕ) → IsOfShow job f → (o h h' : Option (List ℕ)) → unread told a ≡ o → HasRead told a b form loaded
-      → AppendsFront h h' (f (reading_of loaded)) → IfSome o (λ x. WritesPrefix job x h h')
-  told_prefix told a b loaded job f tells o h h' is r text =
-      subst (λ (v : Option (List ℕ)). IfSome v (λ x. WritesPrefix job x h h')) is
-      (if_known (unread told a) _ _ r.means.text (λ x read. told_front_at job f tells x h h' (reading_of loaded) read text))
+      → AppendsFront h h' (f (reading_of loaded)) → IfSome o (λ x. WritesFront ample job x h h')
+  told_prefix ample told a b loaded job f tells o h h' is r text =
+      subst (λ (v : Option (List ℕ)). IfSome v (λ x. WritesFront ample job x h h')) is
+      (if_known (unread told a) _ _ r.means.text (λ x read. told_front_at ample job f tells x h h' (reading_of loaded) read text))
 
   told_fits_at : (job : Job) (f : Reading → List ℕ) → IsOfShow job f → (x : List ℕ) (i n : ℕ) → i ≡ 0 → lines_read (lines_of x) ≡ n
       → i + length (first_lines n x) ≤ INPUT_BYTES → length (wanted_of job x) ≤ INPUT_BYTES
@@ -413,24 +427,24 @@ module _ (form : Form) where
   fault_fits job over told a fault none m =
       refused_fits job over (unread told a) m.unread_then a.taken m.taken_then m.count m.raws fault none m.took m.whole m.text m.wanted
 
-  text_at : (job : Job) → IsOverShow job → (o h h' : Option (List ℕ)) (fault : TextFault) → IfSome o (λ x. reads form x ≡ Err fault)
-      → Appends h h' (fault_text fault) → IfSome o (λ x. WritesAll job x h h' × IsErr (show_of job x))
-  text_at job over None h h' fault text appended = tt
-  text_at job over (Some x) h h' fault text appended = (
+  text_at : (ample : Bool) (job : Job) → IsOverShow job → (o h h' : Option (List ℕ)) (fault : TextFault) → IfSome o (λ x. reads form x ≡ Err fault)
+      → Appends h h' (fault_text fault) → IfSome o (λ x. WritesAll ample job x h h' × IsErr (show_of job x))
+  text_at ample job over None h h' fault text appended = tt
+  text_at ample job over (Some x) h h' fault text appended = (
     record {
       failures = [];
-      allows = over.nothing x;
+      allows = none_of_job ample job x (over.nothing x);
       text = subst (λ (v : List ℕ). Appends h h' v) (sym (over.refusal x fault text)) appended;
     },
     subst (λ (r : Result Reading TextFault). IsErr r) (sym (over.show x ∙ text)) refl,
   )
 
-  text_front : (job : Job) → IsOverShow job → (o h h' : Option (List ℕ)) (fault : TextFault) → IfSome o (λ x. reads form x ≡ Err fault)
-      → AppendsFront h h' (fault_text fault) → IfSome o (λ x. WritesPrefix job x h h')
-  text_front job over None h h' fault text appended = tt
-  text_front job over (Some x) h h' fault text appended = record {
+  text_front : (ample : Bool) (job : Job) → IsOverShow job → (o h h' : Option (List ℕ)) (fault : TextFault) → IfSome o (λ x. reads form x ≡ Err fault)
+      → AppendsFront h h' (fault_text fault) → IfSome o (λ x. WritesFront ample job x h h')
+  text_front ample job over None h h' fault text appended = tt
+  text_front ample job over (Some x) h h' fault text appended = record {
     failures = [];
-    allows = over.nothing x;
+    allows = none_of_job ample job x (over.nothing x);
     text = subst (λ (v : List ℕ). AppendsFront h h' v) (sym (over.refusal x fault text)) appended;
   }
 
@@ -454,23 +468,23 @@ module _ (form : Form) where
   not_refused fault s P kept = kept_is fault s (λ f t. t ≡ status.ShowRefused → P) kept (λ is. absurd cc) (λ is. absurd cc)
       (λ is. absurd cc)
 
-  pub refusal_text : (job : Job) → IsOverShow job
+  pub refusal_text : (ample : Bool) (job : Job) → IsOverShow job
       → {S : Type 0} (told : ToldBySource S) (a b : Lines S) (o h h' : Option (List ℕ)) (fault : ShowFault) (s : Status)
       → unread told a ≡ o → Says told a b fault → RefusedBy h h' fault s → s ≡ status.ShowRefused
-      → IfSome o (λ x. WritesAll job x h h' × IsErr (show_of job x))
-  refusal_text job over told a b o h h' fault s is says by refused = elim by [
-    | inl text ↦ subst (λ (v : Option (List ℕ)). IfSome v (λ x. WritesAll job x h h' × IsErr (show_of job x))) is
-        (text_at job over (unread told a) h h' text.text (means_of told a b fault text.text text.told says).text (text.whole refused))
-    | inr other ↦ not_refused fault s (IfSome o (λ x. WritesAll job x h h' × IsErr (show_of job x))) other.is refused
+      → IfSome o (λ x. WritesAll ample job x h h' × IsErr (show_of job x))
+  refusal_text ample job over told a b o h h' fault s is says by refused = elim by [
+    | inl text ↦ subst (λ (v : Option (List ℕ)). IfSome v (λ x. WritesAll ample job x h h' × IsErr (show_of job x))) is
+        (text_at ample job over (unread told a) h h' text.text (means_of told a b fault text.text text.told says).text (text.whole refused))
+    | inr other ↦ not_refused fault s (IfSome o (λ x. WritesAll ample job x h h' × IsErr (show_of job x))) other.is refused
   ]
 
-  pub refusal_front : (job : Job) → IsOverShow job
+  pub refusal_front : (ample : Bool) (job : Job) → IsOverShow job
       → {S : Type 0} (told : ToldBySource S) (a b : Lines S) (o h h' : Option (List ℕ)) (fault : ShowFault) (s : Status)
-      → unread told a ≡ o → Says told a b fault → RefusedBy h h' fault s → IfSome o (λ x. WritesPrefix job x h h')
-  refusal_front job over told a b o h h' fault s is says by = elim by [
-    | inl text ↦ subst (λ (v : Option (List ℕ)). IfSome v (λ x. WritesPrefix job x h h')) is
-        (text_front job over (unread told a) h h' text.text (means_of told a b fault text.text text.told says).text text.front)
-    | inr other ↦ subst (λ (v : Option (List ℕ)). IfSome o (λ x. WritesPrefix job x h v)) (sym other.kept) (nothing_written job over o h)
+      → unread told a ≡ o → Says told a b fault → RefusedBy h h' fault s → IfSome o (λ x. WritesFront ample job x h h')
+  refusal_front ample job over told a b o h h' fault s is says by = elim by [
+    | inl text ↦ subst (λ (v : Option (List ℕ)). IfSome v (λ x. WritesFront ample job x h h')) is
+        (text_front ample job over (unread told a) h h' text.text (means_of told a b fault text.text text.told says).text text.front)
+    | inr other ↦ subst (λ (v : Option (List ℕ)). IfSome o (λ x. WritesFront ample job x h v)) (sym other.kept) (nothing_written ample job over o h)
   ]
 
   pub refusal_fits : (job : Job) → IsOverShow job
@@ -514,15 +528,15 @@ module _ (form : Form) where
     | inr long ↦ kinds_long s P kinds long
   ]
 
-  pub refusal_cut : (job : Job) → IsOverShow job
+  pub refusal_cut : (ample : Bool) (job : Job) → IsOverShow job
       → {S : Type 0} (told : ToldBySource S) (a b : Lines S) (o h h' : Option (List ℕ)) (fault : ShowFault) (s : Status)
       → unread told a ≡ o → a.taken ≡ 0 → Says told a b fault → RefusedBy h h' fault s
-      → (s ≡ status.ReadFault) ⊎ (s ≡ status.InputTooLong) → IfSome o (λ x. WritesTaken job x (told.left b.source.now) h h')
-  refusal_cut job over told a b o h h' fault s is none says by cut = elim by [
-    | inl text ↦ kinds_cut s (IfSome o (λ x. WritesTaken job x (told.left b.source.now) h h')) text.kinds cut
+      → (s ≡ status.ReadFault) ⊎ (s ≡ status.InputTooLong) → IfSome o (λ x. WritesTaken ample job x (told.left b.source.now) h h')
+  refusal_cut ample job over told a b o h h' fault s is none says by cut = elim by [
+    | inl text ↦ kinds_cut s (IfSome o (λ x. WritesTaken ample job x (told.left b.source.now) h h')) text.kinds cut
     | inr other ↦
-        subst (λ (v : Option (List ℕ)). IfSome o (λ x. WritesTaken job x (told.left b.source.now) h v)) (sym other.kept)
-        (subst (λ (v : Option (List ℕ)). IfSome v (λ x. WritesTaken job x (told.left b.source.now) h h)) is
+        subst (λ (v : Option (List ℕ)). IfSome o (λ x. WritesTaken ample job x (told.left b.source.now) h v)) (sym other.kept)
+        (subst (λ (v : Option (List ℕ)). IfSome v (λ x. WritesTaken ample job x (told.left b.source.now) h h)) is
         (if_known (unread told a) _ _ (cut_kept told a b fault s other.is cut says)
-        (λ x short. over.cut x (told.left b.source.now) h a.taken none short)))
+        (λ x short. over.cut ample x (told.left b.source.now) h a.taken none short)))
   ]

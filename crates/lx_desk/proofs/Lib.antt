@@ -6,6 +6,7 @@ mod MadeEndings
 mod Statuses
 mod Played
 mod AnyFailures
+mod AmpleFailures
 mod LiveRuns
 mod LiveEnds
 mod CrewRuns

@@ -101,7 +101,7 @@ module _ (form : Form) (universes : ℕ) where
 
   -- the same, as it is told of a job
   as_taken : {K : Type 0} (told : ToldBySink K) (x : List ℕ) (left h h' : Option (List ℕ)) (outlets outlets' : List (Option K))
-      → LivesTaken told universes form x left h h' outlets outlets' → RepliesToTaken (Script (Live universes) form) x left h h'
+      → LivesTaken told universes form x left h h' outlets outlets' → RepliesToTaken false (Script (Live universes) form) x left h h'
   as_taken told x left h h' outlets outlets' a = record {
     failures = a.failures;
     allows = live_allows x a.failures (reads form x);
@@ -201,7 +201,7 @@ module _ (form : Form) (universes : ℕ) where
       → unread told_in a ≡ o → a.taken ≡ 0 → Says form told_in a b fault → RefusedBy h h' fault s
       → IfSome o (λ x. HasLived s told universes form x (told_in.left b.source.now) h h' outlets outlets)
   refused_lived told_in told a b o h h' outlets fault s is none says by =
-      both_known o _ _ _ (refusal_ended form (Script (Live universes) form) (script_over form (Live universes)) told_in a b o h h' fault s is none says by)
+      both_known o _ _ _ (refusal_ended false form (Script (Live universes) form) (script_over form (Live universes)) told_in a b o h h' fault s is none says by)
       (unanswered told_in a b o h h' fault s is says by)
       (λ x e unread. refused_at told x (told_in.left b.source.now) h h' outlets fault s by e unread)
 

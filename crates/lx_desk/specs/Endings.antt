@@ -10,7 +10,7 @@ use Rattle.lx_spec.specs.declared.ScriptKind.TheVariants.{Live}
 use Rattle.lx_spec.specs.Text.{lines_of}
 use Rattle.lx_spec.specs.Session.{Answering, bytes_wanted}
 use Rattle.lx_spec.specs.Job.{show_of, wanted_of}
-use Rattle.lx_desk.specs.Output.{WritesAll, WritesPrefix, WritesTaken, AnswersScript, AnswersInFront, AnswersTaken}
+use Rattle.lx_desk.specs.Output.{WritesAll, WritesFront, WritesTaken, AnswersScript, AnswersInFront, AnswersTaken}
 use Rattle.lx_desk.specs.declared.desk.Status.{Status}
 use Rattle.lx_desk.specs.declared.desk.Status.TheVariants as status
 
@@ -45,23 +45,27 @@ EndsScript status.Live = ⊥
 EndsScript other = Unit {0}
 
 -- The whole text was written, and the input is within its limit.
-pub record WritesWhole (job : Job) (bytes : List ℕ) (held held' : Option (List ℕ)) : Type 0 where
-  pub text : WritesAll job bytes held held'
+pub record WritesWhole (ample : Bool) (job : Job) (bytes : List ℕ) (held held' : Option (List ℕ)) : Type 0 where
+  pub text : WritesAll ample job bytes held held'
   pub within : length (wanted_of job bytes) ≤ INPUT_BYTES
 
 -- Ok and ShowRefused: the whole text was written, of a show that was read or of one that is refused. Where the input couldn't be read on,
 -- what was written is nothing, or the replies to the script lines that were taken whole; the input is told too long only where it is.
--- After every other status of a job it is a prefix of the whole text.
+-- After every other status of a job it is a prefix of the whole text. Where memory was ample no attempt failed.
+abbrev pub HasEndedBy : (ample : Bool) → Status → Job → List ℕ → Option (List ℕ) → Option (List ℕ) → Option (List ℕ) → Type 0
+HasEndedBy ample status.Ok job bytes left held held' = WritesWhole ample job bytes held held' × IsOk (show_of job bytes)
+HasEndedBy ample status.ShowRefused job bytes left held held' = WritesWhole ample job bytes held held' × IsErr (show_of job bytes)
+HasEndedBy ample status.ReadFault job bytes left held held' = WritesTaken ample job bytes left held held'
+HasEndedBy ample status.InputTooLong job bytes left held held' =
+    WritesTaken ample job bytes left held held' × (INPUT_BYTES < length (wanted_of job bytes))
+HasEndedBy ample status.WriteFault job bytes left held held' = WritesFront ample job bytes held held'
+HasEndedBy ample status.Memory job bytes left held held' = WritesFront ample job bytes held held'
+HasEndedBy ample status.Usage job bytes left held held' = ⊥
+HasEndedBy ample status.Live job bytes left held held' = at_once (Some job) ≡ Some status.Live
+
+-- the same, whether memory was ample or not
 abbrev pub HasEnded : Status → Job → List ℕ → Option (List ℕ) → Option (List ℕ) → Option (List ℕ) → Type 0
-HasEnded status.Ok job bytes left held held' = WritesWhole job bytes held held' × IsOk (show_of job bytes)
-HasEnded status.ShowRefused job bytes left held held' = WritesWhole job bytes held held' × IsErr (show_of job bytes)
-HasEnded status.ReadFault job bytes left held held' = WritesTaken job bytes left held held'
-HasEnded status.InputTooLong job bytes left held held' =
-    WritesTaken job bytes left held held' × (INPUT_BYTES < length (wanted_of job bytes))
-HasEnded status.WriteFault job bytes left held held' = WritesPrefix job bytes held held'
-HasEnded status.Memory job bytes left held held' = WritesPrefix job bytes held held'
-HasEnded status.Usage job bytes left held held' = ⊥
-HasEnded status.Live job bytes left held held' = at_once (Some job) ≡ Some status.Live
+HasEnded s job bytes left held held' = HasEndedBy false s job bytes left held held'
 
 -- A fault of the outside comes only where its count rose.
 abbrev pub HasCauseOf : Status → (reads reads' writes writes' : ℕ) → Type 0
@@ -70,13 +74,13 @@ HasCauseOf status.WriteFault reads reads' writes writes' = Rose writes writes'
 HasCauseOf other reads reads' writes writes' = Unit {0}
 
 -- The same of a script that is answered from a state on, before which this many bytes of the input were taken.
-abbrev pub HasPlayed : Status → (by : Answering (List ℕ)) → by.State → ℕ → List ℕ → Option (List ℕ) → Option (List ℕ)
+abbrev pub HasPlayed : (ample : Bool) → Status → (by : Answering (List ℕ)) → by.State → ℕ → List ℕ → Option (List ℕ) → Option (List ℕ)
     → Option (List ℕ) → Type 0
-HasPlayed status.Ok by state before bytes left held held' =
-    AnswersScript by state (lines_of bytes) held held' × (before + length (bytes_wanted bytes) ≤ INPUT_BYTES)
-HasPlayed status.ReadFault by state before bytes left held held' = AnswersTaken by state before bytes left held held'
-HasPlayed status.InputTooLong by state before bytes left held held' =
-    AnswersTaken by state before bytes left held held' × (INPUT_BYTES < before + length (bytes_wanted bytes))
-HasPlayed status.WriteFault by state before bytes left held held' = AnswersInFront by state (lines_of bytes) held held'
-HasPlayed status.Memory by state before bytes left held held' = AnswersInFront by state (lines_of bytes) held held'
-HasPlayed other by state before bytes left held held' = ⊥
+HasPlayed ample status.Ok by state before bytes left held held' =
+    AnswersScript ample by state (lines_of bytes) held held' × (before + length (bytes_wanted bytes) ≤ INPUT_BYTES)
+HasPlayed ample status.ReadFault by state before bytes left held held' = AnswersTaken ample by state before bytes left held held'
+HasPlayed ample status.InputTooLong by state before bytes left held held' =
+    AnswersTaken ample by state before bytes left held held' × (INPUT_BYTES < before + length (bytes_wanted bytes))
+HasPlayed ample status.WriteFault by state before bytes left held held' = AnswersInFront ample by state (lines_of bytes) held held'
+HasPlayed ample status.Memory by state before bytes left held held' = AnswersInFront ample by state (lines_of bytes) held held'
+HasPlayed ample other by state before bytes left held held' = ⊥

@@ -1,5 +1,5 @@
 -- What `make` writes about a session, and what holds where it ended.
-use Rattle.std.specs.Prelude.{◌≡◌, ℕ, ◌+◌, ◌<◌, ◌≤◌, true, Option, List, [], ◌∷◌, ◌++◌, length, sum, codes, decimal}
+use Rattle.std.specs.Prelude.{◌≡◌, ℕ, ◌+◌, ◌<◌, ◌≤◌, Bool, true, Option, List, [], ◌∷◌, ◌++◌, length, sum, codes, decimal}
 use Rattle.std.specs.Io.KnownBytes.{Appends}
 use Rattle.lx_base.specs.declared.TheConstants.{INPUT_BYTES}
 use Rattle.lx_io.specs.Puts.{AppendsFront}
@@ -7,13 +7,14 @@ use Rattle.lx_spec.specs.Text.{lines_of}
 use Rattle.lx_spec.specs.Desk.{Desk}
 use Rattle.lx_spec.specs.Output.{frame}
 use Rattle.lx_spec.specs.ShowText.{line}
-use Rattle.lx_spec.specs.Session.{whole_session, Allows, bytes_wanted}
+use Rattle.lx_spec.specs.Session.{whole_session, bytes_wanted}
 use Rattle.lx_spec.specs.DeskSession.{begun, desk_answering}
 use Rattle.lx_spec.specs.MakeOutput.{made_text}
 use Rattle.lx_session.specs.declared.tally.Tally.{Tally}
 use Rattle.lx_desk.specs.declared.desk.Status.{Status}
 use Rattle.lx_desk.specs.declared.desk.Status.TheVariants as status
 use Rattle.lx_desk.specs.declared.make.Report.{Report}
+use Rattle.lx_desk.specs.Output.{ScriptFailures}
 
 -- the five lines
 abbrev pub report_text : Report → List ℕ
@@ -26,22 +27,22 @@ abbrev pub report_of : ℕ → Desk → Tally → Report
 report_of cues d tally = record { cues = cues; moment = d.playback.moment; ok = tally.ok; refused = tally.refused; sum = sum (frame d 1) }
 
 -- The lines about the session of a script were written, wholly or a prefix of them, where these attempts failed.
-pub record TellsSession (cues : ℕ) (d : Desk) (script : List (List ℕ)) (held held' : Option (List ℕ)) : Type 0 where
+pub record TellsSession (ample : Bool) (cues : ℕ) (d : Desk) (script : List (List ℕ)) (held held' : Option (List ℕ)) : Type 0 where
   pub failures : List (Option ℕ)
-  pub allows : Allows (desk_answering true) (begun d) script failures
+  pub allows : ScriptFailures ample (desk_answering true) (begun d) script failures
   pub text : Appends held held' (made_text cues (whole_session (desk_answering true) (begun d) script failures))
 
-pub record TellsInFront (cues : ℕ) (d : Desk) (script : List (List ℕ)) (held held' : Option (List ℕ)) : Type 0 where
+pub record TellsInFront (ample : Bool) (cues : ℕ) (d : Desk) (script : List (List ℕ)) (held held' : Option (List ℕ)) : Type 0 where
   pub failures : List (Option ℕ)
-  pub allows : Allows (desk_answering true) (begun d) script failures
+  pub allows : ScriptFailures ample (desk_answering true) (begun d) script failures
   pub text : AppendsFront held held' (made_text cues (whole_session (desk_answering true) (begun d) script failures))
 
 -- What was written about a session, by the status: where the script couldn't be read on, nothing.
-abbrev pub HasTold : Status → ℕ → Desk → ℕ → List ℕ → Option (List ℕ) → Option (List ℕ) → Type 0
-HasTold status.Ok cues d before bytes held held' =
-    TellsSession cues d (lines_of bytes) held held' × (before + length (bytes_wanted bytes) ≤ INPUT_BYTES)
-HasTold status.ReadFault cues d before bytes held held' = held' ≡ held
-HasTold status.InputTooLong cues d before bytes held held' = (held' ≡ held) × (INPUT_BYTES < before + length (bytes_wanted bytes))
-HasTold status.WriteFault cues d before bytes held held' = TellsInFront cues d (lines_of bytes) held held'
-HasTold status.Memory cues d before bytes held held' = TellsInFront cues d (lines_of bytes) held held'
-HasTold other cues d before bytes held held' = ⊥
+abbrev pub HasTold : (ample : Bool) → Status → ℕ → Desk → ℕ → List ℕ → Option (List ℕ) → Option (List ℕ) → Type 0
+HasTold ample status.Ok cues d before bytes held held' =
+    TellsSession ample cues d (lines_of bytes) held held' × (before + length (bytes_wanted bytes) ≤ INPUT_BYTES)
+HasTold ample status.ReadFault cues d before bytes held held' = held' ≡ held
+HasTold ample status.InputTooLong cues d before bytes held held' = (held' ≡ held) × (INPUT_BYTES < before + length (bytes_wanted bytes))
+HasTold ample status.WriteFault cues d before bytes held held' = TellsInFront ample cues d (lines_of bytes) held held'
+HasTold ample status.Memory cues d before bytes held held' = TellsInFront ample cues d (lines_of bytes) held held'
+HasTold ample other cues d before bytes held held' = ⊥

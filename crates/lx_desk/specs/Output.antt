@@ -1,5 +1,5 @@
 -- What the program wrote for a job.
-use Rattle.std.specs.Prelude.{◌≡◌, ◌<◌, ℕ, ◌-◌, Option, List}
+use Rattle.std.specs.Prelude.{◌≡◌, ◌<◌, ℕ, ◌-◌, Bool, true, false, Option, List, []}
 use Rattle.std.specs.Io.KnownBytes.{Appends}
 use Rattle.lx_io.specs.Puts.{AppendsFront}
 use Rattle.lx_spec.specs.declared.Job.{Job}
@@ -10,23 +10,38 @@ use Rattle.lx_spec.specs.CutInput.{CutOff}
 use Rattle.lx_spec.specs.Session.{Answering, whole_session, session_after, Allows, lines_wanted}
 use Rattle.lx_spec.specs.Job.{output_of, replies_of, lines_wanted_of, JobAllows}
 
+-- What is known of the attempts of a job's script that failed: where memory was ample there is none, and else they failed only where
+-- they may.
+abbrev pub JobFailures : (ample : Bool) → Job → List ℕ → List (Option ℕ) → Type 0
+JobFailures true job bytes failures = failures ≡ []
+JobFailures false job bytes failures = JobAllows job bytes failures
+
+-- the same of a script that is answered from a state on
+abbrev pub ScriptFailures : (ample : Bool) → (by : Answering (List ℕ)) → by.State → List (List ℕ) → List (Option ℕ) → Type 0
+ScriptFailures true by state script failures = failures ≡ []
+ScriptFailures false by state script failures = Allows by state script failures
+
 -- The whole text was written: what the definitions give for these bytes, where these attempts failed.
-pub record WritesAll (job : Job) (bytes : List ℕ) (held held' : Option (List ℕ)) : Type 0 where
+pub record WritesAll (ample : Bool) (job : Job) (bytes : List ℕ) (held held' : Option (List ℕ)) : Type 0 where
   pub failures : List (Option ℕ)
-  pub allows : JobAllows job bytes failures
+  pub allows : JobFailures ample job bytes failures
   pub text : Appends held held' (output_of job bytes failures)
 
 -- A prefix of it was written.
-pub record WritesPrefix (job : Job) (bytes : List ℕ) (held held' : Option (List ℕ)) : Type 0 where
+pub record WritesFront (ample : Bool) (job : Job) (bytes : List ℕ) (held held' : Option (List ℕ)) : Type 0 where
   pub failures : List (Option ℕ)
-  pub allows : JobAllows job bytes failures
+  pub allows : JobFailures ample job bytes failures
   pub text : AppendsFront held held' (output_of job bytes failures)
+
+-- the same, whether memory was ample or not
+abbrev pub WritesPrefix : Job → List ℕ → (held held' : Option (List ℕ)) → Type 0
+WritesPrefix job bytes held held' = WritesFront false job bytes held held'
 
 -- The input was cut off within the lines that are wanted: the replies to the script lines that were taken whole, within its limit, were
 -- written.
-pub record RepliesToTaken (job : Job) (bytes : List ℕ) (left held held' : Option (List ℕ)) : Type 0 where
+pub record RepliesToTaken (ample : Bool) (job : Job) (bytes : List ℕ) (left held held' : Option (List ℕ)) : Type 0 where
   pub failures : List (Option ℕ)
-  pub allows : JobAllows job bytes failures
+  pub allows : JobFailures ample job bytes failures
   pub cut : CutOff 0 bytes left
   pub short : cut.lines < lines_wanted_of job bytes
   pub text : Appends held held' (replies_of job bytes failures (cut.lines - lines_read (lines_of bytes)))
@@ -38,29 +53,29 @@ pub record NothingOfCut (bytes : List ℕ) (left held held' : Option (List ℕ))
   pub short : cut.lines < lines_read (lines_of bytes)
 
 -- By the jobs that answer a script they are, and by every other job nothing is. The input of `make` is its own.
-abbrev pub WritesTaken : Job → List ℕ → Option (List ℕ) → Option (List ℕ) → Option (List ℕ) → Type 0
-WritesTaken (Script kind form) bytes left held held' = RepliesToTaken (Script kind form) bytes left held held'
-WritesTaken (Make n) bytes left held held' = held' ≡ held
-WritesTaken other bytes left held held' = NothingOfCut bytes left held held'
+abbrev pub WritesTaken : (ample : Bool) → Job → List ℕ → Option (List ℕ) → Option (List ℕ) → Option (List ℕ) → Type 0
+WritesTaken ample (Script kind form) bytes left held held' = RepliesToTaken ample (Script kind form) bytes left held held'
+WritesTaken ample (Make n) bytes left held held' = held' ≡ held
+WritesTaken ample other bytes left held held' = NothingOfCut bytes left held held'
 
 -- A script was answered from a state on, wholly or by a prefix of the replies.
-pub record AnswersScript (by : Answering (List ℕ)) (state : by.State) (script : List (List ℕ)) (held held' : Option (List ℕ))
-    : Type 0 where
+pub record AnswersScript (ample : Bool) (by : Answering (List ℕ)) (state : by.State) (script : List (List ℕ))
+    (held held' : Option (List ℕ)) : Type 0 where
   pub failures : List (Option ℕ)
-  pub allows : Allows by state script failures
+  pub allows : ScriptFailures ample by state script failures
   pub text : Appends held held' (whole_session by state script failures).text
 
-pub record AnswersInFront (by : Answering (List ℕ)) (state : by.State) (script : List (List ℕ)) (held held' : Option (List ℕ))
-    : Type 0 where
+pub record AnswersInFront (ample : Bool) (by : Answering (List ℕ)) (state : by.State) (script : List (List ℕ))
+    (held held' : Option (List ℕ)) : Type 0 where
   pub failures : List (Option ℕ)
-  pub allows : Allows by state script failures
+  pub allows : ScriptFailures ample by state script failures
   pub text : AppendsFront held held' (whole_session by state script failures).text
 
 -- The lines of a script that were taken whole were answered, and wholly, and the script wants more of them.
-pub record AnswersTaken (by : Answering (List ℕ)) (state : by.State) (before : ℕ) (bytes : List ℕ) (left held held' : Option (List ℕ))
-    : Type 0 where
+pub record AnswersTaken (ample : Bool) (by : Answering (List ℕ)) (state : by.State) (before : ℕ) (bytes : List ℕ)
+    (left held held' : Option (List ℕ)) : Type 0 where
   pub failures : List (Option ℕ)
-  pub allows : Allows by state (lines_of bytes) failures
+  pub allows : ScriptFailures ample by state (lines_of bytes) failures
   pub cut : CutOff before bytes left
   pub short : cut.lines < lines_wanted (lines_of bytes)
   pub text : Appends held held' (session_after by state (lines_of bytes) failures cut.lines).text

@@ -1,43 +1,45 @@
 //! The job `check`: one line about a show.
 #![tactic(auto, using(lx_io::proofs::Chain::puts))]
 
-ghost use Rattle.std.specs.Prelude.{◌≡◌, ◌⊎◌, ◌++◌, ◌∷◌, [], codes, decimal, IfSome, ℕ, OnOk};
+ghost use Rattle.std.specs.Prelude.{◌≡◌, ◌≤◌, ◌⊎◌, ◌++◌, ◌∷◌, [], codes, decimal, IfSome, ℕ, OnOk};
 ghost use Rattle.lx_io.specs.Causes.{Rose};
 ghost use Rattle.lx_spec.specs.declared.Job.TheVariants.{Check};
 ghost use Rattle.lx_desk.specs.Output.{WritesPrefix};
-ghost use Rattle.lx_desk.specs.Endings.{EndsJob, HasEnded, HasCauseOf};
+ghost use Rattle.lx_desk.specs.Endings.{EndsJob, HasEndedBy, HasCauseOf};
 ghost use Rattle.std.specs.Io.KnownBytes.{Appends};
 ghost use Rattle.lx_io.specs.Puts.{AppendsFront, Puts};
 ghost use Rattle.lx_spec.specs.CheckOutput.{check_text};
 ghost use Rattle.lx_reader.specs.Answer.{reading_of};
-ghost use Rattle.lx_desk.specs.Finished.{Finishes, HasWanted};
+ghost use Rattle.lx_desk.specs.Finished.{ByMemory, Finishes, HasWanted, WantsMemory};
 
 use crate::desk::Status;
 use crate::refuse::refuse;
-use lx_io::{Sink, SinkFault, Source, put_all};
+use lx_io::{Heap, Sink, SinkFault, Source, put_all};
 use lx_lex::{Lines, put_count, put_whole};
-use lx_reader::{Loaded, read_show};
+use lx_reader::{Loaded, read_show_in};
 use lx_show::Form;
-use std::alloc::Global;
 
 /// Reads a show and writes one line about it: how many cues and channels it has, how many of its lines were skipped, and
 /// which was the first of them.
-pub(crate) fn check<S: Source, K: Sink>(
-    alloc: Global,
+pub(crate) fn check<H: Heap, S: Source, K: Sink>(
+    heap: &mut H,
     form: Form,
     input: &mut S,
     output: &mut K,
 ) -> Status
     ensures works { EndsJob result }
-    ensures ended { IfSome (S.left input.old) (λ bytes. HasEnded result (Check form) bytes (S.left input.new) (K.holds output.old)
-        (K.holds output.new)) }
+    ensures ended { ByMemory (H.refusals heap.old) (H.refusals heap.new)
+        (λ ample. IfSome (S.left input.old) (λ bytes. HasEndedBy ample result (Check form) bytes (S.left input.new) (K.holds output.old)
+        (K.holds output.new))) }
     ensures prefix { IfSome (S.left input.old) (λ bytes. WritesPrefix (Check form) bytes (K.holds output.old) (K.holds output.new)) }
     ensures cause { HasCauseOf result (S.faults input.old) (S.faults input.new) (K.faults output.old) (K.faults output.new) }
     ensures finished { Finishes (S.faults input.old) (S.faults input.new) K.Sink output.old output.new result }
     ensures memory { HasWanted K.Sink output.old output.new result }
+    ensures wanted { WantsMemory K.Sink (H.refusals heap.old) (H.refusals heap.new) output.old output.new result }
+    ensures later { H.refusals heap.old ≤ H.refusals heap.new }
 {
     let mut lines = Lines::new(input);
-    match read_show(alloc, &mut lines, form) {
+    match read_show_in(heap, &mut lines, form) {
         Ok(loaded) => tell(&loaded, output),
         Err(fault) => refuse(fault, output),
     }
@@ -51,6 +53,7 @@ fn tell<K: Sink>(loaded: &Loaded, output: &mut K) -> Status
     ensures write { result ≡ Status.WriteFault → Rose (K.faults output.old) (K.faults output.new) }
     ensures finished { (reads : ℕ) → Finishes reads reads K.Sink output.old output.new result }
     ensures memory { HasWanted K.Sink output.old output.new result }
+    ensures wanted { (refusals : ℕ) → WantsMemory K.Sink refusals refusals output.old output.new result }
 {
     match put_and_flush(loaded, output) {
         Ok(()) => Status::Ok,

@@ -1,17 +1,18 @@
 //! The jobs that are done in the caller's thread.
 
-ghost use Rattle.std.specs.Prelude.{IfSome, Some, ◌≡◌, ℕ};
+ghost use Rattle.std.specs.Prelude.{IfSome, Some, true, ◌≡◌, ◌≤◌, ℕ};
 ghost use Rattle.lx_spec.specs.declared.Job.TheVariants.{Make};
 ghost use Rattle.lx_spec.specs.Job.{given_to};
 ghost use Rattle.lx_desk.specs.Output.{WritesPrefix};
-ghost use Rattle.lx_desk.specs.Endings.{AnswersWords, HasEnded, HasCauseOf};
-ghost use Rattle.lx_desk.specs.Finished.{Finishes, HasWanted};
+ghost use Rattle.lx_session.specs.Spared.{HasStood};
+ghost use Rattle.lx_desk.specs.Endings.{AnswersWords, HasEnded, HasEndedBy, HasCauseOf};
+ghost use Rattle.lx_desk.specs.Finished.{Finishes, HasWanted, WantsMemory};
 
 use crate::check::check;
 use crate::make::make;
 use crate::script::script;
 use crate::sheet::sheet;
-use lx_io::{Sink, Source};
+use lx_io::{Heap, Sink, Source, SystemHeap};
 use lx_spec::Job;
 use std::alloc::Global;
 
@@ -58,11 +59,37 @@ pub fn run_job<S: Source, K: Sink>(alloc: Global, job: Job, input: &mut S, outpu
     ensures unread { (cues : ℕ) → job ≡ Make cues → input.new ≡ input.old }
     ensures memory { HasWanted K.Sink output.old output.new result }
 {
+    run_job_in(&mut SystemHeap::new(alloc), job, input, output)
+}
+
+/// Does the job, with all its memory from this heap.
+///
+/// Where the heap refused nothing, what is written is that of a script of which no edit and no record was refused for want of memory.
+/// Memory is told only where the heap refused some, or where the output itself is out of memory.
+pub fn run_job_in<H: Heap, S: Source, K: Sink>(
+    heap: &mut H,
+    job: Job,
+    input: &mut S,
+    output: &mut K,
+) -> Status
+    ensures words { AnswersWords (Some job) result input.old input.new output.old output.new }
+    ensures ended { IfSome (given_to job (S.left input.old))
+        (λ bytes. HasEnded result job bytes (S.left input.new) (K.holds output.old) (K.holds output.new)) }
+    ensures spared { HasStood (H.refusals heap.old) (H.refusals heap.new) → IfSome (given_to job (S.left input.old))
+        (λ bytes. HasEndedBy true result job bytes (S.left input.new) (K.holds output.old) (K.holds output.new)) }
+    ensures prefix { IfSome (given_to job (S.left input.old)) (λ bytes. WritesPrefix job bytes (K.holds output.old) (K.holds output.new)) }
+    ensures cause { HasCauseOf result (S.faults input.old) (S.faults input.new) (K.faults output.old) (K.faults output.new) }
+    ensures finished { Finishes (S.faults input.old) (S.faults input.new) K.Sink output.old output.new result }
+    ensures unread { (cues : ℕ) → job ≡ Make cues → input.new ≡ input.old }
+    ensures memory { HasWanted K.Sink output.old output.new result }
+    ensures wanted { WantsMemory K.Sink (H.refusals heap.old) (H.refusals heap.new) output.old output.new result }
+    ensures later { H.refusals heap.old ≤ H.refusals heap.new }
+{
     match job {
-        Job::Check(form) => check(alloc, form, input, output),
-        Job::Sheet(form) => sheet(alloc, form, input, output),
-        Job::Make(cues) => make(alloc, cues, output),
-        Job::Script(kind, form) => script(alloc, kind, form, input, output),
+        Job::Check(form) => check(heap, form, input, output),
+        Job::Sheet(form) => sheet(heap, form, input, output),
+        Job::Make(cues) => make(heap, cues, output),
+        Job::Script(kind, form) => script(heap, kind, form, input, output),
         Job::Crew(..) => Status::Live,
     }
 }

@@ -1,29 +1,60 @@
 //! The texts of the show and of the script.
 #![tactic(auto, using(lx_io::proofs::Chain::puts))]
 
-ghost use Rattle.std.specs.Prelude.{◌≡◌, ◌*◌, ◌∷◌, ◌++◌, [], codes, decimal, flat_map, IfOk, OnOk};
+ghost use Rattle.std.specs.Prelude.{◌≡◌, ◌<◌, ◌*◌, ◌∷◌, ◌++◌, [], codes, decimal, flat_map, IfOk, IfSome, OnOk};
 ghost use Rattle.std.specs.List.{range_with_len};
+ghost use Rattle.lx_io.specs.Causes.{HasCause};
 ghost use Rattle.lx_io.specs.Puts.{Puts};
 ghost use Rattle.lx_spec.specs.ShowText.{line};
 ghost use Rattle.lx_spec.specs.MakeOutput.{drawn_from, made_cue, made_patch, made_turn, made_input};
 ghost use Rattle.lx_desk.specs.Generator.{chan_text, cue_head, drawn_cue_text, go_text, made_show, patched_text, set_text, turn_text};
 
 use crate::draws::{DrawnCue, DrawnTurn, Draws, Setting};
-use lx_io::{PlainSink, Sink, SinkFault, put_all};
+use crate::room_sink::RoomSink;
+use lx_io::{Heap, Sink, SinkFault, put_all};
 use lx_lex::put_whole;
-use std::alloc::{AllocError, Global};
+use std::alloc::AllocError;
 
 /// How many channels the show is patched to, each to the dimmer of its number.
 const PATCHED: u32 = 512;
 
-/// The input: a show of this many cues, and a script of as many turns. An error comes where memory runs out.
-pub(crate) fn made_input(alloc: Global, cues: u32) -> Result<Vec<u8>, AllocError>
-    ensures { IfOk result (λ input. input.items ≡ made_input cues) }
+/// How many bytes of the input there are at most besides the lines of cues and turns.
+const PATCH_BYTES: usize = 10_496;
+
+/// How many bytes a cue and a turn have at most together.
+const CUE_BYTES: usize = 128;
+
+/// The input: a show of this many cues, and a script of as many turns. An error comes where the heap refuses memory.
+pub(crate) fn made_input<H: Heap>(heap: &mut H, cues: u32) -> Result<Vec<u8>, AllocError>
+    ensures input { IfOk result (λ input. input.items ≡ made_input cues) }
+    ensures cause { HasCause (H.refusals heap.old) (H.refusals heap.new) result }
 {
-    let mut sink = PlainSink::new(alloc);
+    let mut capacity = bytes_for(cues);
+    'rooms: loop {
+        let room = heap.room(capacity)?;
+        if let Some(input) = input_in(room, cues) {
+            return Ok(input);
+        }
+        capacity *= 2;
+    }
+}
+
+/// The room that is made for the input at first.
+fn bytes_for(cues: u32) -> usize
+    ensures { 0 < result }
+{
+    PATCH_BYTES + cues as usize * CUE_BYTES
+}
+
+/// The input in this room, if there is enough of it.
+fn input_in(room: Vec<u8>, cues: u32) -> Option<Vec<u8>>
+    requires { room.items ≡ [] }
+    ensures { IfSome result (λ input. input.items ≡ made_input cues) }
+{
+    let mut sink = RoomSink::new(room);
     match put_input(cues, &mut sink) {
-        Ok(()) => Ok(sink.into_bytes()),
-        Err(_) => Err(AllocError),
+        Ok(()) => Some(sink.into_bytes()),
+        Err(_) => None,
     }
 }
 

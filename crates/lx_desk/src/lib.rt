@@ -12,11 +12,12 @@ mod live;
 mod make;
 mod play;
 mod refuse;
+mod room_sink;
 mod script;
 mod sheet;
 mod two;
 mod undo;
 
 pub use crew::run_crew;
-pub use desk::{Status, run_job};
+pub use desk::{Status, run_job, run_job_in};
 pub use live::run_live;

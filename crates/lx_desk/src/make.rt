@@ -1,7 +1,7 @@
 //! The job `make`: a session over an input that is made of a number, and five lines about it.
 #![tactic(auto, using(lx_io::proofs::Chain::puts))]
 
-ghost use Rattle.std.specs.Prelude.{◌≡◌, ◌≤◌, ◌⊎◌, ◌∷◌, [], ℕ, List, decimal, sum, length, IfSome, IsTrue, OnOk};
+ghost use Rattle.std.specs.Prelude.{◌≡◌, ◌≤◌, ◌⊎◌, ◌∷◌, [], false, ℕ, List, decimal, sum, length, IfSome, IsTrue, OnOk};
 ghost use Rattle.std.specs.declared.option.Option.{Option};
 ghost use Rattle.std.specs.Io.KnownBytes.{Appends};
 ghost use Rattle.lx_base.specs.declared.TheConstants.{INPUT_BYTES, UNIVERSE_SLOTS};
@@ -10,15 +10,16 @@ ghost use Rattle.lx_io.specs.Puts.{AppendsFront, Puts};
 ghost use Rattle.lx_lex.specs.Unread.{unread};
 ghost use Rattle.lx_spec.specs.declared.Job.TheVariants as jobs;
 ghost use Rattle.lx_spec.specs.Text.{lines_of};
+ghost use Rattle.lx_spec.specs.MakeOutput.{made_input};
 ghost use Rattle.lx_spec.specs.ShowText.{line};
 ghost use Rattle.lx_spec.specs.Desk.{Desk, opened};
 ghost use Rattle.lx_spec.specs.Output.{frame};
 ghost use Rattle.lx_console.specs.Slots.{universe};
 ghost use Rattle.lx_console.specs.ConsoleMeaning.{StandsFor};
 ghost use Rattle.lx_desk.specs.Output.{WritesPrefix};
-ghost use Rattle.lx_desk.specs.Endings.{EndsJob, EndsScript, HasEnded, HasCauseOf};
+ghost use Rattle.lx_desk.specs.Endings.{EndsJob, EndsScript, HasEndedBy, HasCauseOf};
 ghost use Rattle.lx_desk.specs.Made.{HasTold, TellsInFront, report_of, report_text};
-ghost use Rattle.lx_desk.specs.Finished.{Finishes, HasWanted};
+ghost use Rattle.lx_desk.specs.Finished.{ByMemory, Finishes, HasWanted, WantsMemory};
 
 use crate::desk::Status;
 use crate::discard::Discard;
@@ -27,12 +28,11 @@ use crate::play::status_of;
 use crate::refuse::refuse;
 use lx_base::{Level, UNIVERSE_SLOTS};
 use lx_console::Console;
-use lx_io::{PlainSource, Sink, SinkFault, Source, put_all};
+use lx_io::{Heap, PlainSource, Sink, SinkFault, Source, put_all};
 use lx_lex::{Lines, put_count};
-use lx_reader::read_show;
-use lx_session::{Tally, session};
+use lx_reader::read_show_in;
+use lx_session::{Tally, session_in};
 use lx_show::{Form, Show};
-use std::alloc::Global;
 
 /// How many bytes of the input are read at a time.
 const PIECE: usize = 65_536;
@@ -54,28 +54,47 @@ pub(crate) struct Report {
 
 /// Makes an input of a number, reads its show and answers its script as `render` does, and writes five lines about the
 /// session in place of the replies.
-pub(crate) fn make<K: Sink>(alloc: Global, cues: u32, output: &mut K) -> Status
+pub(crate) fn make<H: Heap, K: Sink>(heap: &mut H, cues: u32, output: &mut K) -> Status
     ensures works { EndsJob result }
-    ensures ended { (left : Option (List ℕ)) → HasEnded result (jobs.Make cues) [] left (K.holds output.old) (K.holds output.new) }
+    ensures ended { ByMemory (H.refusals heap.old) (H.refusals heap.new) (λ ample. (left : Option (List ℕ))
+        → HasEndedBy ample result (jobs.Make cues) [] left (K.holds output.old) (K.holds output.new)) }
     ensures prefix { WritesPrefix (jobs.Make cues) [] (K.holds output.old) (K.holds output.new) }
     ensures cause { (reads : ℕ) → HasCauseOf result reads reads (K.faults output.old) (K.faults output.new) }
     ensures finished { (reads : ℕ) → Finishes reads reads K.Sink output.old output.new result }
     ensures memory { HasWanted K.Sink output.old output.new result }
+    ensures wanted { WantsMemory K.Sink (H.refusals heap.old) (H.refusals heap.new) output.old output.new result }
+    ensures later { H.refusals heap.old ≤ H.refusals heap.new }
 {
-    let Ok(input) = made_input(alloc, cues) else {
-        return Status::Memory;
-    };
+    match made_input(heap, cues) {
+        Ok(input) => make_of(heap, cues, input, output),
+        Err(_) => Status::Memory,
+    }
+}
+
+/// Reads the show of a made input and answers its script, and writes the lines about the session.
+fn make_of<H: Heap, K: Sink>(heap: &mut H, cues: u32, input: Vec<u8>, output: &mut K) -> Status
+    requires { input.items ≡ made_input cues }
+    ensures works { EndsJob result }
+    ensures ended { ByMemory (H.refusals heap.old) (H.refusals heap.new) (λ ample. (left : Option (List ℕ))
+        → HasEndedBy ample result (jobs.Make cues) [] left (K.holds output.old) (K.holds output.new)) }
+    ensures prefix { WritesPrefix (jobs.Make cues) [] (K.holds output.old) (K.holds output.new) }
+    ensures cause { (reads : ℕ) → HasCauseOf result reads reads (K.faults output.old) (K.faults output.new) }
+    ensures finished { (reads : ℕ) → Finishes reads reads K.Sink output.old output.new result }
+    ensures memory { HasWanted K.Sink output.old output.new result }
+    ensures wanted { WantsMemory K.Sink (H.refusals heap.old) (H.refusals heap.new) output.old output.new result }
+    ensures later { H.refusals heap.old ≤ H.refusals heap.new }
+{
     let mut input = PlainSource::new(input, PIECE);
     let mut lines = Lines::new(&mut input);
-    match read_show(alloc, &mut lines, Form::Moves) {
-        Ok(loaded) => tell_session(alloc, cues, loaded.show, &mut lines, output),
+    match read_show_in(heap, &mut lines, Form::Moves) {
+        Ok(loaded) => tell_session(heap, cues, loaded.show, &mut lines, output),
         Err(fault) => refuse(fault, output),
     }
 }
 
 /// Answers the script that is left over a show, drops the replies, and writes the lines about the session.
-fn tell_session<S: Source, K: Sink>(
-    alloc: Global,
+fn tell_session<H: Heap, S: Source, K: Sink>(
+    heap: &mut H,
     cues: u32,
     show: Show,
     lines: &mut Lines<S>,
@@ -84,20 +103,22 @@ fn tell_session<S: Source, K: Sink>(
     requires going { IsTrue lines.old.going }
     requires within { lines.old.taken ≤ INPUT_BYTES }
     ensures works { EndsScript result }
-    ensures ended { IfSome (unread S.Source lines.old)
-        (λ bytes. HasTold result cues (opened show) lines.old.taken bytes (K.holds output.old) (K.holds output.new)) }
+    ensures ended { ByMemory (H.refusals heap.old) (H.refusals heap.new) (λ ample. IfSome (unread S.Source lines.old)
+        (λ bytes. HasTold ample result cues (opened show) lines.old.taken bytes (K.holds output.old) (K.holds output.new))) }
     ensures front { IfSome (unread S.Source lines.old)
-        (λ bytes. TellsInFront cues (opened show) (lines_of bytes) (K.holds output.old) (K.holds output.new)) }
+        (λ bytes. TellsInFront false cues (opened show) (lines_of bytes) (K.holds output.old) (K.holds output.new)) }
     ensures cause { HasCauseOf result (S.faults lines.old.source.now) (S.faults lines.new.source.now) (K.faults output.old)
         (K.faults output.new) }
     ensures finished { Finishes (S.faults lines.old.source.now) (S.faults lines.new.source.now) K.Sink output.old
         output.new result }
     ensures memory { HasWanted K.Sink output.old output.new result }
+    ensures wanted { WantsMemory K.Sink (H.refusals heap.old) (H.refusals heap.new) output.old output.new result }
+    ensures later { H.refusals heap.old ≤ H.refusals heap.new }
 {
-    let Ok(mut console) = Console::open(alloc, show) else {
+    let Ok(mut console) = Console::open_in(heap, show) else {
         return Status::Memory;
     };
-    match session(&mut console, lines, &mut Discard) {
+    match session_in(heap, &mut console, lines, &mut Discard) {
         Ok(tally) => tell(report_on(cues, &console, tally), output),
         Err(fault) => status_of(Err(fault)),
     }
@@ -145,6 +166,7 @@ fn tell<K: Sink>(report: Report, output: &mut K) -> Status
     ensures write { result ≡ Status.WriteFault → Rose (K.faults output.old) (K.faults output.new) }
     ensures finished { (reads : ℕ) → Finishes reads reads K.Sink output.old output.new result }
     ensures memory { HasWanted K.Sink output.old output.new result }
+    ensures wanted { (refusals : ℕ) → WantsMemory K.Sink refusals refusals output.old output.new result }
 {
     match put_and_flush(report, output) {
         Ok(()) => Status::Ok,

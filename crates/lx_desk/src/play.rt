@@ -10,15 +10,14 @@ ghost use Rattle.lx_desk.specs.Plays.{Plays};
 
 use crate::desk::Status;
 use lx_console::Console;
-use lx_io::{Sink, Source};
+use lx_io::{Heap, Sink, Source};
 use lx_lex::Lines;
-use lx_session::{SessionFault, Tally, session};
+use lx_session::{SessionFault, Tally, session_in};
 use lx_show::Show;
-use std::alloc::Global;
 
 /// Answers the script that is left over a show, from its opening on.
-pub(crate) fn play<S: Source, K: Sink>(
-    alloc: Global,
+pub(crate) fn play<H: Heap, S: Source, K: Sink>(
+    heap: &mut H,
     show: Show,
     lines: &mut Lines<S>,
     output: &mut K,
@@ -26,13 +25,13 @@ pub(crate) fn play<S: Source, K: Sink>(
     requires going { CanAdvance lines.old }
     requires within { bytes_taken lines.old ≤ INPUT_BYTES }
     ensures same_source { SameSource lines.old lines.new }
-    ensures plays { Plays S.Source K.Sink (answering_of Render) (opening_of Render show) lines.old lines.new
-        output.old output.new result }
+    ensures plays { Plays S.Source K.Sink (H.refusals heap.old) (H.refusals heap.new) (answering_of Render) (opening_of Render show) lines.old
+        lines.new output.old output.new result }
 {
-    let Ok(mut console) = Console::open(alloc, show) else {
-        return Status::Memory;
-    };
-    status_of(session(&mut console, lines, output))
+    match Console::open_in(heap, show) {
+        Ok(mut console) => status_of(session_in(heap, &mut console, lines, output)),
+        Err(_) => Status::Memory,
+    }
 }
 
 /// The status of a session.

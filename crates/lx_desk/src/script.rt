@@ -6,8 +6,8 @@ ghost use Rattle.lx_lex.specs.Unread.{CanAdvance, SameSource, bytes_taken};
 ghost use Rattle.lx_spec.specs.declared.Job.TheVariants as jobs;
 ghost use Rattle.lx_spec.specs.ScriptKinds.{answering_of, opening_of};
 ghost use Rattle.lx_desk.specs.Output.{WritesPrefix};
-ghost use Rattle.lx_desk.specs.Endings.{AnswersWords, EndsJob, HasEnded, HasCauseOf, is_live};
-ghost use Rattle.lx_desk.specs.Finished.{Finishes, HasWanted};
+ghost use Rattle.lx_desk.specs.Endings.{AnswersWords, EndsJob, HasEndedBy, HasCauseOf, is_live};
+ghost use Rattle.lx_desk.specs.Finished.{ByMemory, Finishes, HasWanted, WantsMemory};
 ghost use Rattle.lx_desk.specs.Plays.{Plays};
 
 use crate::desk::Status;
@@ -15,34 +15,35 @@ use crate::play::play;
 use crate::refuse::refuse;
 use crate::two::play_two;
 use crate::undo::play_with_undo;
-use lx_io::{Sink, Source};
+use lx_io::{Heap, Sink, Source};
 use lx_lex::Lines;
-use lx_reader::read_show;
+use lx_reader::read_show_in;
 use lx_show::{Form, Show};
 use lx_spec::ScriptKind;
-use std::alloc::Global;
 
 /// Reads a show and then a script, and answers the script over the show. Of one that is played live nothing is done here.
-pub(crate) fn script<S: Source, K: Sink>(
-    alloc: Global,
+pub(crate) fn script<H: Heap, S: Source, K: Sink>(
+    heap: &mut H,
     kind: ScriptKind,
     form: Form,
     input: &mut S,
     output: &mut K,
 ) -> Status
     ensures words { AnswersWords (Some (jobs.Script kind form)) result input.old input.new output.old output.new }
-    ensures ended { IfSome (S.left input.old)
-        (λ bytes. HasEnded result (jobs.Script kind form) bytes (S.left input.new) (K.holds output.old) (K.holds output.new)) }
+    ensures ended { ByMemory (H.refusals heap.old) (H.refusals heap.new) (λ ample. IfSome (S.left input.old)
+        (λ bytes. HasEndedBy ample result (jobs.Script kind form) bytes (S.left input.new) (K.holds output.old) (K.holds output.new))) }
     ensures prefix { IfSome (S.left input.old)
         (λ bytes. WritesPrefix (jobs.Script kind form) bytes (K.holds output.old) (K.holds output.new)) }
     ensures cause { HasCauseOf result (S.faults input.old) (S.faults input.new) (K.faults output.old) (K.faults output.new) }
     ensures finished { Finishes (S.faults input.old) (S.faults input.new) K.Sink output.old output.new result }
     ensures memory { HasWanted K.Sink output.old output.new result }
+    ensures wanted { WantsMemory K.Sink (H.refusals heap.old) (H.refusals heap.new) output.old output.new result }
+    ensures later { H.refusals heap.old ≤ H.refusals heap.new }
 {
     if is_live(kind) {
         return Status::Live;
     }
-    read_and_play(alloc, kind, form, input, output)
+    read_and_play(heap, kind, form, input, output)
 }
 
 /// Whether threads play the script beside the caller's.
@@ -53,8 +54,8 @@ fn is_live(kind: ScriptKind) -> bool
 }
 
 /// Reads a show and then a script, and answers the script over the show.
-fn read_and_play<S: Source, K: Sink>(
-    alloc: Global,
+fn read_and_play<H: Heap, S: Source, K: Sink>(
+    heap: &mut H,
     kind: ScriptKind,
     form: Form,
     input: &mut S,
@@ -62,24 +63,26 @@ fn read_and_play<S: Source, K: Sink>(
 ) -> Status
     requires here { is_live kind ≡ false }
     ensures works { EndsJob result }
-    ensures ended { IfSome (S.left input.old)
-        (λ bytes. HasEnded result (jobs.Script kind form) bytes (S.left input.new) (K.holds output.old) (K.holds output.new)) }
+    ensures ended { ByMemory (H.refusals heap.old) (H.refusals heap.new) (λ ample. IfSome (S.left input.old)
+        (λ bytes. HasEndedBy ample result (jobs.Script kind form) bytes (S.left input.new) (K.holds output.old) (K.holds output.new))) }
     ensures prefix { IfSome (S.left input.old)
         (λ bytes. WritesPrefix (jobs.Script kind form) bytes (K.holds output.old) (K.holds output.new)) }
     ensures cause { HasCauseOf result (S.faults input.old) (S.faults input.new) (K.faults output.old) (K.faults output.new) }
     ensures finished { Finishes (S.faults input.old) (S.faults input.new) K.Sink output.old output.new result }
     ensures memory { HasWanted K.Sink output.old output.new result }
+    ensures wanted { WantsMemory K.Sink (H.refusals heap.old) (H.refusals heap.new) output.old output.new result }
+    ensures later { H.refusals heap.old ≤ H.refusals heap.new }
 {
     let mut lines = Lines::new(input);
-    match read_show(alloc, &mut lines, form) {
-        Ok(loaded) => play_script(alloc, kind, loaded.show, &mut lines, output),
+    match read_show_in(heap, &mut lines, form) {
+        Ok(loaded) => play_script(heap, kind, loaded.show, &mut lines, output),
         Err(fault) => refuse(fault, output),
     }
 }
 
 /// Answers the script that is left over a show, from its opening on.
-fn play_script<S: Source, K: Sink>(
-    alloc: Global,
+fn play_script<H: Heap, S: Source, K: Sink>(
+    heap: &mut H,
     kind: ScriptKind,
     show: Show,
     lines: &mut Lines<S>,
@@ -89,13 +92,13 @@ fn play_script<S: Source, K: Sink>(
     requires going { CanAdvance lines.old }
     requires within { bytes_taken lines.old ≤ INPUT_BYTES }
     ensures same_source { SameSource lines.old lines.new }
-    ensures plays { Plays S.Source K.Sink (answering_of kind) (opening_of kind show) lines.old lines.new
-        output.old output.new result }
+    ensures plays { Plays S.Source K.Sink (H.refusals heap.old) (H.refusals heap.new) (answering_of kind) (opening_of kind show) lines.old
+        lines.new output.old output.new result }
 {
     match kind {
-        ScriptKind::Render => play(alloc, show, lines, output),
+        ScriptKind::Render => play(heap, show, lines, output),
         ScriptKind::Live(_) => unreachable!(),
-        ScriptKind::Undo => play_with_undo(alloc, show, lines, output),
-        ScriptKind::Two => play_two(alloc, show, lines, output),
+        ScriptKind::Undo => play_with_undo(heap, show, lines, output),
+        ScriptKind::Two => play_two(heap, show, lines, output),
     }
 }

@@ -9,15 +9,14 @@ ghost use Rattle.lx_desk.specs.Plays.{Plays};
 
 use crate::desk::Status;
 use crate::play::status_of;
-use lx_io::{Sink, Source};
+use lx_io::{Heap, Sink, Source};
 use lx_lex::Lines;
-use lx_lists::{TwoLists, two_session};
+use lx_lists::{TwoLists, two_session_in};
 use lx_show::Show;
-use std::alloc::Global;
 
 /// Answers the script that is left over two cue lists of a show, from its opening on.
-pub(crate) fn play_two<S: Source, K: Sink>(
-    alloc: Global,
+pub(crate) fn play_two<H: Heap, S: Source, K: Sink>(
+    heap: &mut H,
     show: Show,
     lines: &mut Lines<S>,
     output: &mut K,
@@ -25,11 +24,11 @@ pub(crate) fn play_two<S: Source, K: Sink>(
     requires going { CanAdvance lines.old }
     requires within { bytes_taken lines.old ≤ INPUT_BYTES }
     ensures same_source { SameSource lines.old lines.new }
-    ensures plays { Plays S.Source K.Sink (answering_of Two) (opening_of Two show) lines.old lines.new
-        output.old output.new result }
+    ensures plays { Plays S.Source K.Sink (H.refusals heap.old) (H.refusals heap.new) (answering_of Two) (opening_of Two show) lines.old
+        lines.new output.old output.new result }
 {
-    let Ok(mut desk) = TwoLists::open(alloc, show) else {
-        return Status::Memory;
-    };
-    status_of(two_session(&mut desk, lines, output))
+    match TwoLists::open_in(heap, show) {
+        Ok(mut desk) => status_of(two_session_in(&mut desk, heap, lines, output)),
+        Err(_) => Status::Memory,
+    }
 }

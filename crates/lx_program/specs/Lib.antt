@@ -2,3 +2,4 @@ pub mod Exits
 pub mod NamedJob
 pub mod Words
 pub mod Places
+pub mod Wants

@@ -1,6 +1,6 @@
 //! The program as calls: from the words and the bytes that come in to the bytes that go out.
 
-ghost use Rattle.std.specs.Prelude.{◌≡◌, ℕ, true, Some, IsSome, length, map, string_bytes};
+ghost use Rattle.std.specs.Prelude.{◌≡◌, ◌≤◌, ℕ, true, Some, IsSome, length, map, string_bytes};
 ghost use Rattle.std.specs.List.{list_any};
 ghost use Rattle.lx_base.specs.declared.TheConstants.{OPERATORS, UNIVERSES};
 ghost use Rattle.lx_spec.specs.Job.{job_of};
@@ -8,17 +8,19 @@ ghost use Rattle.lx_spec.specs.Reading.{reads};
 ghost use Rattle.lx_base.specs.Places.{EachAt};
 ghost use Rattle.lx_workers.specs.Places.{IsFull};
 ghost use Rattle.lx_desk.specs.Crew.{HasCrewCause, HasCrewEnded, KeepsOperators, WritesCrewFront};
-ghost use Rattle.lx_desk.specs.Endings.{AnswersWords, HasCauseOf, HasEnded};
+ghost use Rattle.lx_session.specs.Spared.{HasStood};
+ghost use Rattle.lx_desk.specs.Endings.{AnswersWords, HasCauseOf, HasEnded, HasEndedBy};
 ghost use Rattle.lx_desk.specs.Finished.{Finishes, HasWanted};
 ghost use Rattle.lx_desk.specs.Live.{DecidesInOrder, HasLiveCause, HasLived, KeepsOutlets, LivesToEnd};
 ghost use Rattle.lx_desk.specs.Output.{WritesPrefix};
 ghost use Rattle.lx_spec.specs.declared.Job.TheVariants.{Make};
 ghost use Rattle.lx_program.specs.Words.{begins_with_dash};
 ghost use Rattle.lx_program.specs.NamedJob.{OfCrew, OfJob, OfRun, in_use};
+ghost use Rattle.lx_program.specs.Wants.{WantsUnread};
 
 use crate::words::{WordsFault, crew_of, live_run_of, words_of};
-use lx_desk::{Status, run_crew, run_job, run_live};
-use lx_io::{Pace, Sink, Source};
+use lx_desk::{Status, run_crew, run_job_in, run_live};
+use lx_io::{Heap, Pace, Sink, Source, SystemHeap};
 use std::alloc::Global;
 use std::sync::Wait;
 use std::thread::Threads;
@@ -59,8 +61,38 @@ pub fn desk<S: Source, K: Sink>(
     // `make` reads nothing.
     ensures unread { (cues : ℕ) → job_of (map string_bytes words.now) ≡ Some (Make cues) → input.new ≡ input.old }
 {
-    match words_of(alloc, words) {
-        Ok(job) => run_job(alloc, job, input, output),
+    desk_in(&mut SystemHeap::new(alloc), words, input, output)
+}
+
+/// Does the job that the words name as `desk` does, with the memory of this heap. But for the words, which are read with memory of its
+/// allocator: where that has none nothing is read or written, and the heap isn't asked.
+pub fn desk_in<H: Heap, S: Source, K: Sink>(
+    heap: &mut H,
+    words: &[String],
+    input: &mut S,
+    output: &mut K,
+) -> Status
+    ensures words { AnswersWords (job_of (map string_bytes words.now)) result input.old input.new output.old output.new }
+    ensures ended { OfJob (map string_bytes words.now) (S.left input.old)
+        (λ job bytes. HasEnded result job bytes (S.left input.new) (K.holds output.old) (K.holds output.new)) }
+
+    // Where the heap refused nothing, no edit and no record was refused for want of memory.
+    ensures spared { HasStood (H.refusals heap.old) (H.refusals heap.new) → OfJob (map string_bytes words.now) (S.left input.old)
+        (λ job bytes. HasEndedBy true result job bytes (S.left input.new) (K.holds output.old) (K.holds output.new)) }
+    ensures prefix { OfJob (map string_bytes words.now) (S.left input.old)
+        (λ job bytes. WritesPrefix job bytes (K.holds output.old) (K.holds output.new)) }
+    ensures cause { HasCauseOf result (S.faults input.old) (S.faults input.new) (K.faults output.old) (K.faults output.new) }
+    ensures finished { Finishes (S.faults input.old) (S.faults input.new) K.Sink output.old output.new result }
+    ensures memory { HasWanted K.Sink output.old output.new result }
+
+    // Memory is told only where the heap refused some or the output itself is out of memory, or before anything was asked of them.
+    ensures wanted { WantsUnread K.Sink H.refusals heap.old heap.new input.old input.new output.old output.new result }
+    ensures dash { list_any begins_with_dash (map string_bytes words.now) ≡ true → result ≡ Status.Usage }
+    ensures unread { (cues : ℕ) → job_of (map string_bytes words.now) ≡ Some (Make cues) → input.new ≡ input.old }
+    ensures later { H.refusals heap.old ≤ H.refusals heap.new }
+{
+    match words_of(heap.allocator(), words) {
+        Ok(job) => run_job_in(heap, job, input, output),
         Err(WordsFault::Usage) => Status::Usage,
         Err(WordsFault::Memory) => Status::Memory,
     }

@@ -10,7 +10,7 @@ mod pace;
 mod universes;
 mod words;
 
-pub use calls::{desk, desk_crew, desk_live};
+pub use calls::{desk, desk_crew, desk_in, desk_live};
 pub use exit::exit_of;
 pub use operators::{OperatorFile, scripts};
 pub use pace::DeskPace;

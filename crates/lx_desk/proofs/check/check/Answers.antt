@@ -1,39 +1,39 @@
-use Rattle.lx_desk.proofs.Imports.{sym, ap, ◌∙◌, subst, IfSome, Check, check_text, HasEnded, IsDone, Finishes}
+use Rattle.lx_desk.proofs.Imports.{sym, ap, ◌∙◌, subst, IfSome, Check, check_text, HasEndedBy, IsDone, Finishes, false, arith}
 use Rattle.lx_desk.specs.declared.desk.Status.TheVariants as status
 use Rattle.lx_desk.proofs.Inputs.{told_prefix, refusal_front, check_tells}
 use Rattle.lx_desk.proofs.Endings.{told_ends, told_ended, refusal_ends, refusal_ended}
-use Rattle.lx_desk.proofs.Finishing.{after_reads, refusal_reads}
+use Rattle.lx_desk.proofs.Finishing.{after_reads, refusal_reads, refusal_wanted, wanted_since}
 use Rattle.lx_desk.proofs.check.check.Goals as goal
 
 pub returns-in-Ok-clause-works : goal.returns-in-Ok-clause-works
 returns-in-Ok-clause-works g c = told_ends c.tell.result status.Ok tt c.tell.ensures.kinds
 
 pub returns-in-Ok-clause-ended : goal.returns-in-Ok-clause-ended
-returns-in-Ok-clause-ended g c =
-    told_ended c.args.form _ _ _ c.in-Ok.loaded (Check c.args.form) check_text (check_tells c.args.form) _ _ _ _ c.tell.result
+returns-in-Ok-clause-ended g c = λ ample stood.
+    told_ended ample c.args.form _ _ _ c.in-Ok.loaded (Check c.args.form) check_text (check_tells c.args.form) _ _ _ _ c.tell.result
     c.new-lines.ensures.unread c.new-lines.ensures.taken c.in-Ok.ensures.answer c.tell.ensures.kinds c.tell.ensures.ok
     c.tell.ensures.prefix
 
 pub returns-in-Ok-clause-prefix : goal.returns-in-Ok-clause-prefix
-returns-in-Ok-clause-prefix g c = told_prefix c.args.form _ _ _ c.in-Ok.loaded (Check c.args.form) check_text (check_tells c.args.form) _
+returns-in-Ok-clause-prefix g c = told_prefix c.args.form false _ _ _ c.in-Ok.loaded (Check c.args.form) check_text (check_tells c.args.form) _
     _ _ c.new-lines.ensures.unread c.in-Ok.ensures.answer c.tell.ensures.prefix
 
 pub returns-in-Err-clause-works : goal.returns-in-Err-clause-works
 returns-in-Err-clause-works g c = refusal_ends _ _ c.in-Err.fault c.refuse.result c.refuse.ensures.refused
 
 pub returns-in-Err-clause-ended : goal.returns-in-Err-clause-ended
-returns-in-Err-clause-ended g c =
+returns-in-Err-clause-ended g c = λ ample stood.
     let same = c.input-1.given.1 (sym (c.in-Err.ensures.same_reference ∙ c.new-lines.ensures.same_reference)) in
     subst (λ v. IfSome (g.S.Source.left c.args.input.now)
-    (λ bytes. HasEnded c.refuse.result (Check c.args.form) bytes (g.S.Source.left v) (g.K.Sink.holds c.args.output.now)
+    (λ bytes. HasEndedBy ample c.refuse.result (Check c.args.form) bytes (g.S.Source.left v) (g.K.Sink.holds c.args.output.now)
     (g.K.Sink.holds c.refuse.new.output))) (sym same)
-    (refusal_ended c.args.form (Check c.args.form) ((check_tells c.args.form).over) _ c.new-lines.result c.read_show.new.lines _ _ _
+    (refusal_ended ample c.args.form (Check c.args.form) ((check_tells c.args.form).over) _ c.new-lines.result c.read_show_in.new.lines _ _ _
     c.in-Err.fault c.refuse.result c.new-lines.ensures.unread c.new-lines.ensures.taken c.in-Err.ensures.answer
     c.refuse.ensures.refused)
 
 pub returns-in-Err-clause-prefix : goal.returns-in-Err-clause-prefix
-returns-in-Err-clause-prefix g c = refusal_front c.args.form (Check c.args.form) ((check_tells c.args.form).over) _ c.new-lines.result
-    c.read_show.new.lines _ _ _ c.in-Err.fault _ c.new-lines.ensures.unread c.in-Err.ensures.answer c.refuse.ensures.refused
+returns-in-Err-clause-prefix g c = refusal_front c.args.form false (Check c.args.form) ((check_tells c.args.form).over) _ c.new-lines.result
+    c.read_show_in.new.lines _ _ _ c.in-Err.fault _ c.new-lines.ensures.unread c.in-Err.ensures.answer c.refuse.ensures.refused
 
 pub returns-in-Ok-clause-finished : goal.returns-in-Ok-clause-finished
 returns-in-Ok-clause-finished g c =
@@ -41,7 +41,7 @@ returns-in-Ok-clause-finished g c =
     let kept = c.in-Ok.ensures.kept (λ odd. cc) ∙ ap g.S.Source.faults c.new-lines.ensures.source in
     subst (λ v. Finishes (g.S.Source.faults c.args.input.now) (g.S.Source.faults v) g.K.Sink
     c.args.output.now c.tell.new.output c.tell.result) (sym same)
-    (after_reads _ _ _ _ _ _ c.tell.result (λ done. kept) (c.tell.ensures.finished (g.S.Source.faults c.read_show.new.lines.source.now)))
+    (after_reads _ _ _ _ _ _ c.tell.result (λ done. kept) (c.tell.ensures.finished (g.S.Source.faults c.read_show_in.new.lines.source.now)))
 
 pub returns-in-Err-clause-finished : goal.returns-in-Err-clause-finished
 returns-in-Err-clause-finished g c =
@@ -50,4 +50,12 @@ returns-in-Err-clause-finished g c =
     (λ other. c.in-Err.ensures.kept (λ is. other (cc))) done ∙ ap g.S.Source.faults c.new-lines.ensures.source in
     subst (λ v. Finishes (g.S.Source.faults c.args.input.now) (g.S.Source.faults v) g.K.Sink
     c.args.output.now c.refuse.new.output c.refuse.result) (sym same)
-    (after_reads _ _ _ _ _ _ c.refuse.result kept (c.refuse.ensures.finished (g.S.Source.faults c.read_show.new.lines.source.now)))
+    (after_reads _ _ _ _ _ _ c.refuse.result kept (c.refuse.ensures.finished (g.S.Source.faults c.read_show_in.new.lines.source.now)))
+
+pub returns-in-Ok-clause-wanted : goal.returns-in-Ok-clause-wanted
+returns-in-Ok-clause-wanted g c =
+    wanted_since _ _ (g.H.Heap.refusals c.read_show_in.new.heap) _ _ _ c.tell.result c.in-Ok.ensures.cause.later
+    (c.tell.ensures.wanted (g.H.Heap.refusals c.read_show_in.new.heap))
+
+pub returns-in-Err-clause-wanted : goal.returns-in-Err-clause-wanted
+returns-in-Err-clause-wanted g c = refusal_wanted _ _ _ _ _ c.in-Err.fault c.refuse.result c.in-Err.ensures.cause.failed c.refuse.ensures.wanted

@@ -5,11 +5,13 @@ use Rattle.lx_undo.proofs.Lawful.{undo_lawful}
 use Rattle.lx_desk.proofs.Played.{nothing_plays, session_plays}
 use Rattle.lx_desk.proofs.undo.play_with_undo.Goals as goal
 
-pub returns-in_default-clause-plays : goal.returns-in_default-clause-plays
-returns-in_default-clause-plays g c = nothing_plays undo_answering (opened_with c.args.show UNDO_DEPTH) _ _ _ _
+pub returns-in-Ok-clause-plays : goal.returns-in-Ok-clause-plays
+returns-in-Ok-clause-plays g c =
+    session_plays undo_answering undo_lawful _ (opened_with c.args.show UNDO_DEPTH) _ _ _ _ _ _ _ _ _ _ _ c.status_of.ensures
+    c.in-Ok.ensures.cause.later c.undo_session_in.ensures.later
+    (λ ample stood. c.undo_session_in.ensures.outcome ample stood (opened_with c.args.show UNDO_DEPTH) c.in-Ok.ensures.stands)
+    c.undo_session_in.ensures.limit c.undo_session_in.ensures.cause c.undo_session_in.ensures.handed_on
 
-pub returns-clause-plays : goal.returns-clause-plays
-returns-clause-plays g c =
-    session_plays undo_answering undo_lawful _ (opened_with c.args.show UNDO_DEPTH) _ _ _ _ _ _ _ _ c.status_of.ensures
-    (c.undo_session.ensures.outcome (opened_with c.args.show UNDO_DEPTH) c.in-Ok.ensures) c.undo_session.ensures.limit
-    c.undo_session.ensures.cause c.undo_session.ensures.handed_on
+pub returns-in-Err-clause-plays : goal.returns-in-Err-clause-plays
+returns-in-Err-clause-plays g c = nothing_plays undo_answering (opened_with c.args.show UNDO_DEPTH) _ _ _ _ _ _
+    c.in-Err.ensures.cause.later c.in-Err.ensures.cause.failed
