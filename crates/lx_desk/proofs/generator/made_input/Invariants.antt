@@ -1,4 +1,4 @@
-use Rattle.lx_desk.proofs.Imports.{◌≡◌, ◌<◌, ◌-◌, ◌^◌}
+use Rattle.std.proofs.Common.{◌≡◌, ◌<◌, ◌-◌, ◌^◌}
 use Rattle.lx_desk.proofs.generator.made_input.Given as goal
 
 abbrev pub invariant-rooms : goal.invariant-rooms

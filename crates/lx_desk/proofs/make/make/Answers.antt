@@ -9,7 +9,7 @@ returns-in-Ok-clause-ended g c = λ ample stood left.
 
 pub returns-in-Ok-clause-wanted : goal.returns-in-Ok-clause-wanted
 returns-in-Ok-clause-wanted g c =
-    wanted_since _ _ (g.H.Heap.refusals c.made_input.new.heap) _ _ _ c.make_of.result c.in-Ok.ensures.cause.later
+    wanted_since g.K.Sink _ (g.H.Heap.refusals c.made_input.new.heap) _ c.args.output.now c.make_of.new.output c.make_of.result c.in-Ok.ensures.cause.later
     c.make_of.ensures.wanted
 
 pub returns-in-Ok-clause-later : goal.returns-in-Ok-clause-later

@@ -26,15 +26,15 @@ returns-in-Ok-clause-prefix g c =
 pub returns-in-Ok-clause-cause : goal.returns-in-Ok-clause-cause
 returns-in-Ok-clause-cause g c = λ reads. no_read_fault c.tell_session.result _ _ _ _ reads refl refl c.tell_session.ensures.cause
 
-pub returns-in-Err-clause-ended : goal.returns-in-Err-clause-ended
-returns-in-Err-clause-ended g c = λ ample stood rest.
+pub returns-clause-ended : goal.returns-clause-ended
+returns-clause-ended g c = λ ample stood rest.
     let is = c.new-lines.ensures.unread ∙ ap (λ (s : PlainBytes). Some s.left) c.new-input.ensures
     ∙ ap (λ (b : List ℕ). Some b) c.requires in
     made_refused c.args.cues _ c.new-lines.result c.read_show_in.new.lines is c.new-lines.ensures.taken ample rest _ _ c.in-Err.fault c.refuse.result
     c.in-Err.ensures.answer c.refuse.ensures.refused
 
-pub returns-in-Err-clause-prefix : goal.returns-in-Err-clause-prefix
-returns-in-Err-clause-prefix g c =
+pub returns-clause-prefix : goal.returns-clause-prefix
+returns-clause-prefix g c =
     let is = c.new-lines.ensures.unread ∙ ap (λ (s : PlainBytes). Some s.left) c.new-input.ensures
     ∙ ap (λ (b : List ℕ). Some b) c.requires in
     made_refused_front c.args.cues _ c.new-lines.result c.read_show_in.new.lines is c.new-lines.ensures.taken false _ _ c.in-Err.fault
@@ -42,11 +42,13 @@ returns-in-Err-clause-prefix g c =
 
 pub returns-in-Ok-clause-wanted : goal.returns-in-Ok-clause-wanted
 returns-in-Ok-clause-wanted g c =
-    wanted_since _ _ (g.H.Heap.refusals c.read_show_in.new.heap) _ _ _ c.tell_session.result c.in-Ok.ensures.cause.later
+    wanted_since g.K.Sink _ (g.H.Heap.refusals c.read_show_in.new.heap) _ c.args.output.now c.tell_session.new.output c.tell_session.result c.in-Ok.ensures.cause.later
     c.tell_session.ensures.wanted
 
 pub returns-in-Ok-clause-later : goal.returns-in-Ok-clause-later
 returns-in-Ok-clause-later g c = omega (arith, c.in-Ok.ensures.cause.later, c.tell_session.ensures.later)
 
-pub returns-in-Err-clause-wanted : goal.returns-in-Err-clause-wanted
-returns-in-Err-clause-wanted g c = refusal_wanted _ _ _ _ _ c.in-Err.fault c.refuse.result c.in-Err.ensures.cause.failed c.refuse.ensures.wanted
+pub returns-clause-wanted : goal.returns-clause-wanted
+returns-clause-wanted g c =
+    refusal_wanted g.K.Sink (g.H.Heap.refusals c.args.heap.now) (g.H.Heap.refusals c.read_show_in.new.heap) c.args.output.now
+    c.refuse.new.output c.in-Err.fault c.refuse.result c.in-Err.ensures.cause.failed c.refuse.ensures.wanted

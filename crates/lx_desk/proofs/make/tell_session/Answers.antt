@@ -34,7 +34,7 @@ returns-in-Ok-session_in-clause-cause g c = told_cause c.tell.result _ _ _ _ c.t
 
 pub returns-in-Ok-session_in-clause-wanted : goal.returns-in-Ok-session_in-clause-wanted
 returns-in-Ok-session_in-clause-wanted g c =
-    wanted_since _ _ (g.H.Heap.refusals c.session_in.new.heap) _ _ _ c.tell.result
+    wanted_since g.K.Sink _ (g.H.Heap.refusals c.session_in.new.heap) _ c.args.output.now c.tell.new.output c.tell.result
     (omega (arith, c.in-Ok.ensures.cause.later, c.in-Ok-session_in.ensures.later))
     (c.tell.ensures.wanted (g.H.Heap.refusals c.session_in.new.heap))
 

@@ -4,7 +4,7 @@ use Rattle.lx_desk.proofs.sheet.list.Goals as goal
 
 pub returns-in-Ok-clause-wanted : goal.returns-in-Ok-clause-wanted
 returns-in-Ok-clause-wanted g c =
-    wanted_since _ _ (g.H.Heap.refusals c.open_in.new.heap) _ _ _ c.tell.result c.in-Ok.ensures.cause.later
+    wanted_since g.K.Sink _ (g.H.Heap.refusals c.open_in.new.heap) _ c.args.output.now c.tell.new.output c.tell.result c.in-Ok.ensures.cause.later
     (c.tell.ensures.wanted (g.H.Heap.refusals c.open_in.new.heap))
 
 pub returns-in-Ok-clause-later : goal.returns-in-Ok-clause-later

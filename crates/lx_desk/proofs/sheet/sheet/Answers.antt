@@ -54,11 +54,13 @@ returns-in-Err-clause-finished g c =
 
 pub returns-in-Ok-clause-wanted : goal.returns-in-Ok-clause-wanted
 returns-in-Ok-clause-wanted g c =
-    wanted_since _ _ (g.H.Heap.refusals c.read_show_in.new.heap) _ _ _ c.list.result c.in-Ok.ensures.cause.later
+    wanted_since g.K.Sink _ (g.H.Heap.refusals c.read_show_in.new.heap) _ c.args.output.now c.list.new.output c.list.result c.in-Ok.ensures.cause.later
     c.list.ensures.wanted
 
 pub returns-in-Ok-clause-later : goal.returns-in-Ok-clause-later
 returns-in-Ok-clause-later g c = omega (arith, c.in-Ok.ensures.cause.later, c.list.ensures.later)
 
 pub returns-in-Err-clause-wanted : goal.returns-in-Err-clause-wanted
-returns-in-Err-clause-wanted g c = refusal_wanted _ _ _ _ _ c.in-Err.fault c.refuse.result c.in-Err.ensures.cause.failed c.refuse.ensures.wanted
+returns-in-Err-clause-wanted g c =
+    refusal_wanted g.K.Sink (g.H.Heap.refusals c.args.heap.now) (g.H.Heap.refusals c.read_show_in.new.heap) c.args.output.now
+    c.refuse.new.output c.in-Err.fault c.refuse.result c.in-Err.ensures.cause.failed c.refuse.ensures.wanted
