@@ -1,9 +1,26 @@
-use Rattle.lx_program.proofs.Imports.{List, ℕ, map, string_bytes, refl, inl, true, false, Job, unwritten}
-use Rattle.std.proofs.Common.{inr}
+use Rattle.lx_program.proofs.Imports.{◌≡◌, List, ℕ, map, string_bytes, refl, inl, true, false, Option, Some, None, IfSome, Job, job_of, unwritten}
+use Rattle.std.proofs.Common.{◌⊎◌, inr}
 use Rattle.lx_desk.specs.Output.{WritesFront, WritesPrefix}
-use Rattle.lx_desk.specs.Endings.{HasEnded, HasEndedBy}
+use Rattle.lx_desk.specs.Endings.{AnswersWords, HasEnded, HasEndedBy, at_once}
+use Rattle.lx_desk.specs.declared.desk.Status.{Status}
+use Rattle.lx_desk.specs.declared.desk.Status.TheVariants as status
 use Rattle.lx_program.proofs.JobWords.{of_job, of_each_job}
 use Rattle.lx_program.proofs.calls.desk_in.Goals as goal
+
+-- Memory is an answer to any words, where nothing was read or written
+if_any : (o : Option Status) (P : Status → Type 0) → ((s : Status) → P s) → IfSome o P
+if_any None P p = tt
+if_any (Some s) P p = p s
+
+unread : {I O : Type 0} (job : Option Job) (input : I) (output : O) → AnswersWords job status.Memory input input output output
+unread job input output = record {
+  at = if_any (at_once job) (λ answer. ((status.Memory ≡ answer) ⊎ (status.Memory ≡ status.Memory)) × ((input ≡ input) × (output ≡ output)))
+      (λ answer. (inr refl, (refl, refl)));
+  only = λ is. elim is [ inl usage ↦ absurd cc | inr live ↦ absurd cc ];
+}
+
+pub returns-in-Err-Memory-clause-words : goal.returns-in-Err-Memory-clause-words
+returns-in-Err-Memory-clause-words g c = unread (job_of (map string_bytes c.args.words.now)) c.args.input.now c.args.output.now
 
 pub returns-in-Ok-clause-ended : goal.returns-in-Ok-clause-ended
 returns-in-Ok-clause-ended g c =
