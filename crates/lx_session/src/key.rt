@@ -28,7 +28,8 @@ pub(crate) fn answer_key<L: Listener, K: Sink>(
     requires keeps { L.keeps listener.old console.old }
     ensures keeps { L.keeps listener.new console.new }
     ensures answered { FromDesk console.old tally.old
-        (λ s. SparedAnswer (L.admitted_all listener.new ≡ true) (L.admitted_all listener.new) (L.heard listener.old listener.new) K.Sink sink.old sink.new result s
+        (λ s. SparedAnswer (L.admitted_all listener.new ≡ true) (L.admitted_all listener.new) (L.heard listener.old listener.new)
+        K.Sink sink.old sink.new result s
         (Some (Line.Command (Command.Key key))) console.new tally.new) }
     ensures all { L.admitted_all listener.new ≡ true → L.admitted_all listener.old ≡ true }
     ensures goes_on { IfOk result (λ more. more ≡ true) }
