@@ -19,7 +19,8 @@ pub record ScriptIsBack {S : Type 0} (told_in : ToldBySource S) (places : List (
   pub ended : ScriptHasEnded told_in start source fault lines
 
 -- the transcript, or a prefix of one where the output had a fault
-abbrev pub HasWrittenTranscript : (ample : Bool) → Desk → (ℕ → List (List ℕ)) → (held held' : Option (List ℕ)) → Kept → Tally → Option SinkFault → Type 0
+abbrev pub HasWrittenTranscript : (ample : Bool) → Desk → (ℕ → List (List ℕ)) → (held held' : Option (List ℕ)) → Kept → Tally
+    → Option SinkFault → Type 0
 HasWrittenTranscript ample d lines held held' console tally None = WholeTranscript ample d lines held held' console tally
 HasWrittenTranscript ample d lines held held' console tally (Some fault) = TranscriptPrefix ample d lines held held'
 

@@ -47,13 +47,14 @@ entries_of place number InputTooLong = []
 abbrev pub said : List Message → List CrewEntry
 said entries = flat_map (λ (e : Message). entries_of e.place e.number e.sent) entries
 
--- The name of a line was written and the line done and answered, or a prefix of the name was written. Where the heap refused nothing no attempt
--- failed.
+-- The name of a line was written and the line done and answered, or a prefix of the name was written. Where the heap refused nothing no
+-- attempt failed.
 pub record NamedAnswer {K : Type 0} (refusals refusals' : ℕ) (told : ToldBySink K) (sink sink' : K) (result : Result Bool SinkFault)
     (s : Session DeskState) (name : List ℕ) (meaning : Option Meant) (console : Kept) (tally : Tally) : Type 0 where
   pub between : K
   pub named : Appends (told.holds sink) (told.holds between) name
-  pub answer : SparedAnswer (IsAmple true refusals refusals') true (λ commands. Unit {0}) told between sink' result (with_text s name) meaning console tally
+  pub answer : SparedAnswer (IsAmple true refusals refusals') true (λ commands. Unit {0}) told between sink' result (with_text s name) meaning
+      console tally
 
 abbrev pub AnswersNamed : {K : Type 0} → (refusals refusals' : ℕ) → ToldBySink K → (sink sink' : K) → Result Bool SinkFault
     → Session DeskState → List ℕ → Option Meant → Kept → Tally → Type 0
@@ -62,13 +63,15 @@ AnswersNamed refusals refusals' told sink sink' result s name meaning console ta
     ⊎ NamedAnswer refusals refusals' told sink sink' result s name meaning console tally
 
 -- The entries are done from a desk on, of each is told which attempt failed, if one did, and the session has come so far.
-pub record IsDoneWithEntries (ample : Bool) (d : Desk) (entries : List CrewEntry) (failures : List (Option ℕ)) (now : Session DeskState) : Type 0 where
+pub record IsDoneWithEntries (ample : Bool) (d : Desk) (entries : List CrewEntry) (failures : List (Option ℕ)) (now : Session DeskState)
+    : Type 0 where
   pub each : length failures ≡ length entries
   pub is : crew_session d entries failures ≡ now
   pub allows : CrewAllowsBy ample d entries failures
 
 -- What was popped is answered, and its whole transcript was written.
-pub record AnsweredAll (ample : Bool) (d : Desk) (popped : List Message) (held held' : Option (List ℕ)) (console : Kept) (tally : Tally) : Type 0 where
+pub record AnsweredAll (ample : Bool) (d : Desk) (popped : List Message) (held held' : Option (List ℕ)) (console : Kept) (tally : Tally)
+    : Type 0 where
   pub failures : List (Option ℕ)
   pub now : Session DeskState
   pub done : IsDoneWithEntries ample d (said popped) failures now
