@@ -1,8 +1,8 @@
 //! Where the memory of a crew's queue comes from.
 
-ghost use Rattle.std.specs.Prelude.{◌≡◌, ◌≤◌, [], IfOk};
+ghost use Rattle.std.specs.Prelude.{◌≡◌, [], IfOk};
 ghost use Rattle.crossbeam_queue.specs.Passes.{view, IsPassOf};
-ghost use Rattle.lx_io.specs.Causes.{HasCause, one_more};
+ghost use Rattle.lx_io.specs.Causes.{HasCause};
 ghost use Rattle.lx_crew.specs.Rule.{engine_view};
 
 use crate::entry::Message;
