@@ -3,7 +3,7 @@ use Rattle.lx_crew.proofs.Imports.{◌≡◌, inl, inr, ℕ, zero, suc, ◌+◌,
 use Rattle.lx_crew.proofs.Imports.{◌++◌, length, map, slice_get, refl, sym, ap, ◌∙◌, subst, add-one, arith, AllByRecursion, Appends, slice_get_within}
 use Rattle.lx_crew.proofs.Imports.{filter-append, dec_le, Pass, SinkFault, AppendsFront, crew_session, Desk, Kept, Session, DeskState, StandsFor, Tally, Message}
 use Rattle.lx_crew.proofs.Imports.{OperatorFault, Operator, View, said, HasAnswered, of_place, is_last, has_last, EachAt, Retired, owned, engine_view, Learned}
-use Rattle.lx_crew.proofs.Imports.{ScriptHasEnded, last_entry, ToldBySink, ToldBySource}
+use Rattle.lx_crew.proofs.Imports.{ScriptHasEnded, last_entry, ToldBySink, ToldBySource, Bool}
 use Rattle.lx_crew.specs.declared.fault.OperatorFault.TheVariants.{ReadFault, InputTooLong}
 use Rattle.lx_crew.specs.CrewOutcome.{ScriptIsBack, HasWrittenTranscript, HasCrewed}
 use Rattle.lx_crew.proofs.Lists.{none_front}
@@ -70,29 +70,30 @@ sent_at told Its places ys popped items n h len learned ended k (no within) =
     }))
 
 -- The transcript was written, or a prefix of one.
-written : (d : Desk) (lines : ℕ → List (List ℕ)) (popped : List Message) (held held' : Option (List ℕ)) (console : Kept) (tally : Tally)
-    (output : Option SinkFault) → ((k : ℕ) → SentAt lines k (of_place k popped)) → HasAnswered d popped held held' console tally output
-    → HasWrittenTranscript d (by_number lines) held held' console tally output
-written d lines popped held held' console tally None sent a =
+written : (ample : Bool) (d : Desk) (lines : ℕ → List (List ℕ)) (popped : List Message) (held held' : Option (List ℕ)) (console : Kept)
+    (tally : Tally) (output : Option SinkFault) → ((k : ℕ) → SentAt lines k (of_place k popped))
+    → HasAnswered ample d popped held held' console tally output
+    → HasWrittenTranscript ample d (by_number lines) held held' console tally output
+written ample d lines popped held held' console tally None sent a =
     let all = all_true lines popped sent in
     let same : crew_session d (true_entries lines popped) a.failures ≡ a.now =
     sym (same_session lines a.failures popped d all) ∙ a.done.is in record {
       entries = true_entries lines popped;
       merged = merged lines popped sent;
       failures = a.failures;
-      allows = same_allows lines a.failures popped d all a.done.allows;
+      allows = same_allows ample lines a.failures popped d all a.done.allows;
       text = subst (λ (s : Session DeskState). Appends held held' s.text) (sym same) a.text;
       counts = sym (ap (λ (s : Session DeskState). s.counts) same ∙ a.counts);
       stands = subst (λ (s : Session DeskState). StandsFor s.state.desk console) (sym same) a.stands;
     }
-written d lines popped held held' console tally (Some fault) sent a =
+written ample d lines popped held held' console tally (Some fault) sent a =
     let all = all_front (IsTrueTo lines) a.first a.rest (subst (AllByRecursion (IsTrueTo lines)) a.are (all_true lines popped sent)) in
     let same : crew_session d (said a.first) a.failures ≡ crew_session d (true_entries lines a.first) a.failures =
     same_session lines a.failures a.first d all in record {
       entries = true_entries lines a.first;
       merged = merged_so_far lines popped a.first a.rest sent a.are;
       failures = a.failures;
-      allows = same_allows lines a.failures a.first d all a.allows;
+      allows = same_allows ample lines a.failures a.first d all a.allows;
       text = subst (λ (s : Session DeskState). AppendsFront held held' s.text) same a.text;
     }
 
@@ -126,7 +127,7 @@ no_more told Its places ys h len zero past = refl
 no_more told Its places ys h len (suc k) past =
     none_at (Retired told Its places) (λ k y r. r.sent.lines) ys h k (omega (arith, len, past))
 
-pub crewed : {S K : Type 0} (told_in : ToldBySource S) (told_out : ToldBySink K) (Its : Pass Message View → Type 0) (d : Desk)
+pub crewed : {S K : Type 0} (ample : Bool) (told_in : ToldBySource S) (told_out : ToldBySink K) (Its : Pass Message View → Type 0) (d : Desk)
     (places places' : List (Option S)) (sink sink' : K) (console : Kept) (tally : Tally) (output : Option SinkFault)
     (told : List (Option OperatorFault)) (ys : List (Operator S)) (popped items : List Message) (n : ℕ)
     → EachAt (Retired told_in Its places) ys → length ys ≡ n → n ≡ length places → Learned
@@ -134,10 +135,10 @@ pub crewed : {S K : Type 0} (told_in : ToldBySource S) (told_out : ToldBySink K)
     → ((k : ℕ) → k < n → has_last (of_place k popped) ≡ true) → length places' ≡ length places
     → EachAt (λ k y. slice_get places' k ≡ Some (Some y.source)) ys → EachAt (λ k y. slice_get told k ≡ Some y.fault) ys
     → ((place : ℕ) (fault : OperatorFault) → slice_get told place ≡ Some (Some fault) → place < length places)
-    → HasAnswered d popped (told_out.holds sink) (told_out.holds sink') console tally output
-    → HasCrewed told_in told_out d places places' sink sink' console tally output told
-crewed told_in told_out Its d places places' sink sink' console tally output told ys popped items n h len all learned ended same back says
-    others answered =
+    → HasAnswered ample d popped (told_out.holds sink) (told_out.holds sink') console tally output
+    → HasCrewed ample told_in told_out d places places' sink sink' console tally output told
+crewed ample told_in told_out Its d places places' sink sink' console tally output told ys popped items n h len all learned ended same back
+    says others answered =
     let count : length ys ≡ length places = len ∙ all in
     let lines = lines_of told_in Its places ys h in record {
       lines = by_number lines;
@@ -146,6 +147,6 @@ crewed told_in told_out Its d places places' sink sink' console tally output tol
       none = refl;
       no_more = no_more told_in Its places ys h count;
       others = others;
-      written = written d lines popped (told_out.holds sink) (told_out.holds sink') console tally output
+      written = written ample d lines popped (told_out.holds sink) (told_out.holds sink') console tally output
           (λ k. sent_at told_in Its places ys popped items n h len learned ended k (dec_le n k)) answered;
     }

@@ -14,6 +14,7 @@ pub use Rattle.lx_crew.specs.Entries.{has_last, HasText, HaveLines, is_last, Num
 pub use Rattle.lx_crew.specs.OperatorWorks.{HasRunOperator, HasSentNothing, Hired, owned, Retired, Works}
 pub use Rattle.lx_crew.specs.Rule.{AddsEntry, engine_view, FitsEngine, FitsOperator, FitsPass, KeepsOrder, Learned, operator_view, spent_view, Takes}
 pub use Rattle.lx_crew.specs.Scripts.{AreLines, ScriptHasEnded}
+pub use Rattle.lx_crew.specs.Transcripts.{CrewAllowsBy}
 pub use Rattle.lx_crew.specs.SentLines.{follows, HasSentLines, last_entry, TookNext}
 pub use Rattle.lx_crew.specs.declared.entry.Message.{Message}
 pub use Rattle.lx_crew.specs.declared.entry.Sent.{Sent}
@@ -27,8 +28,10 @@ pub use Rattle.lx_io.specs.declared.sink.SinkFault.{SinkFault}
 pub use Rattle.lx_io.specs.Told.{ToldBySink, ToldBySource}
 pub use Rattle.lx_lex.proofs.HandingOut.{handed_none, handed_one, handed_then}
 pub use Rattle.lx_session.proofs.HeardLines.{extends_line, meaning_is}
+pub use Rattle.lx_session.proofs.Stood.{stood_since, stood_until}
+pub use Rattle.lx_session.specs.Spared.{HasStood, IsAmple, MayFailUnless, spared}
 pub use Rattle.lx_session.specs.declared.tally.Tally.{Tally}
-pub use Rattle.lx_spec.specs.CrewText.{after_entry, crew_answering, crew_session, crew_text, CrewAllows, CrewEntry, Merged, MergedSoFar, named, numbered_from}
+pub use Rattle.lx_spec.specs.CrewText.{after_entry, crew_answering, crew_session, crew_text, CrewEntry, Merged, MergedSoFar, named, numbered_from}
 pub use Rattle.lx_spec.specs.CrewText.{of_operator, op_text}
 pub use Rattle.lx_spec.specs.Desk.{Desk}
 pub use Rattle.lx_spec.specs.DeskSession.{after_meaning, begun, DeskState, IsAcceptedEdit}

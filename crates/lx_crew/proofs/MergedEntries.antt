@@ -1,10 +1,10 @@
 -- The transcript's entries with the true texts of lines that are too long.
 use Rattle.lx_crew.proofs.Imports.{◌≡◌, ℕ, zero, suc, ◌+◌, ◌-◌, ◌==◌, Bool, true, false, cond, List, [], ◌∷◌, ◌++◌, take, drop}
 use Rattle.lx_crew.proofs.Imports.{refl, sym, ap, ◌∙◌, ◌⊎◌, ⊎_elim, Option, None, true≢false, add-one, subst, eq-eqb, get_or, arith, IfSome}
-use Rattle.lx_crew.proofs.Imports.{AllByRecursion, filter-append, CrewEntry, op_text, after_entry, crew_answering, crew_session, CrewAllows, Desk, line_of}
+use Rattle.lx_crew.proofs.Imports.{AllByRecursion, filter-append, CrewEntry, op_text, after_entry, crew_answering, crew_session, CrewAllowsBy, Desk, line_of}
 use Rattle.lx_crew.proofs.Imports.{Session, begin_at, with_text, after_each, AreAllowed, DeskState, begun, after_meaning, IsAcceptedEdit, meaning_is, Message}
 use Rattle.lx_crew.proofs.Imports.{Sent, Line, LongLine, End, ReadFault, InputTooLong, long_line, named_line, entries_of, said, of_place, is_last, HasText}
-use Rattle.lx_crew.proofs.Imports.{HaveLines, of_operator, numbered_from, Merged, MergedSoFar, length-replicate, LINE_BYTES}
+use Rattle.lx_crew.proofs.Imports.{HaveLines, of_operator, numbered_from, Merged, MergedSoFar, length-replicate, LINE_BYTES, MayFailUnless, spared}
 use Rattle.std.proofs.lemmas.Bool.Decides.{nat_tests}
 use Rattle.lx_spec.specs.declared.Line.{Line as Meant}
 use Rattle.lx_crew.proofs.Lists.{none_front, tail_of}
@@ -60,16 +60,16 @@ session_alike (failed ∷ failures) s (x ∷ xs) (y ∷ ys) alike =
     ap (λ t. after_each crew_answering failures t xs) (same_entry failed s x y alike.0 alike.1.0)
     ∙ session_alike failures (after_entry failed s y) xs ys alike.1.1
 
-allows_alike : (failures : List (Option ℕ)) (s : Session DeskState) (xs ys : List CrewEntry) → Alike xs ys
-    → AreAllowed crew_answering failures s xs → AreAllowed crew_answering failures s ys
-allows_alike [] s xs ys alike a = tt
-allows_alike (failed ∷ failures) s [] [] alike a = tt
-allows_alike (failed ∷ failures) s [] (y ∷ ys) alike a = absurd alike
-allows_alike (failed ∷ failures) s (x ∷ xs) [] alike a = absurd alike
-allows_alike (failed ∷ failures) s (x ∷ xs) (y ∷ ys) alike a = (
-  subst (λ (m : Option Meant). IfSome failed (λ attempt. IsAcceptedEdit s.state.desk m)) alike.1.0 a.0,
-  allows_alike failures (after_entry failed s y) xs ys alike.1.1
-      (subst (λ t. AreAllowed crew_answering failures t xs) (same_entry failed s x y alike.0 alike.1.0) a.1),
+allows_alike : (ample : Bool) (failures : List (Option ℕ)) (s : Session DeskState) (xs ys : List CrewEntry) → Alike xs ys
+    → AreAllowed (spared ample crew_answering) failures s xs → AreAllowed (spared ample crew_answering) failures s ys
+allows_alike ample [] s xs ys alike a = tt
+allows_alike ample (failed ∷ failures) s [] [] alike a = tt
+allows_alike ample (failed ∷ failures) s [] (y ∷ ys) alike a = absurd alike
+allows_alike ample (failed ∷ failures) s (x ∷ xs) [] alike a = absurd alike
+allows_alike ample (failed ∷ failures) s (x ∷ xs) (y ∷ ys) alike a = (
+  subst (λ (m : Option Meant). IfSome failed (λ attempt. MayFailUnless ample (IsAcceptedEdit s.state.desk m))) alike.1.0 a.0,
+  allows_alike ample failures (after_entry failed s y) xs ys alike.1.1
+      (subst (λ t. AreAllowed (spared ample crew_answering) failures t xs) (same_entry failed s x y alike.0 alike.1.0) a.1),
 )
 
 -- The sessions are the same: only the texts of lines that are too long differ, which are bad.
@@ -93,10 +93,10 @@ pub same_session : (lines : ℕ → List (List ℕ)) (failures : List (Option �
 same_session lines failures es d all =
     session_alike failures (begin_at (begun d)) (said es) (true_entries lines es) (alike_said lines es all)
 
-pub same_allows : (lines : ℕ → List (List ℕ)) (failures : List (Option ℕ)) (es : List Message) (d : Desk)
-    → AllByRecursion (IsTrueTo lines) es → CrewAllows d (said es) failures → CrewAllows d (true_entries lines es) failures
-same_allows lines failures es d all a =
-    allows_alike failures (begin_at (begun d)) (said es) (true_entries lines es) (alike_said lines es all) a
+pub same_allows : (ample : Bool) (lines : ℕ → List (List ℕ)) (failures : List (Option ℕ)) (es : List Message) (d : Desk)
+    → AllByRecursion (IsTrueTo lines) es → CrewAllowsBy ample d (said es) failures → CrewAllowsBy ample d (true_entries lines es) failures
+same_allows ample lines failures es d all a =
+    allows_alike ample failures (begin_at (begun d)) (said es) (true_entries lines es) (alike_said lines es all) a
 
 -- What holds of each operator's entries holds of all.
 behind : (P : Message → Type 0) (e : Message) (rest : List Message) (b : Bool) → AllByRecursion P (cond b (e ∷ rest) rest) → AllByRecursion P rest

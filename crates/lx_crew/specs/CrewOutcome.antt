@@ -1,5 +1,5 @@
 -- What a crew comes to.
-use Rattle.std.specs.Prelude.{◌≡◌, ℕ, ◌+◌, ◌<◌, List, [], length, Option, Some, None, slice_get}
+use Rattle.std.specs.Prelude.{◌≡◌, ℕ, ◌+◌, ◌<◌, Bool, List, [], length, Option, Some, None, slice_get}
 use Rattle.lx_io.specs.declared.sink.SinkFault.{SinkFault}
 use Rattle.lx_io.specs.Told.{ToldBySink, ToldBySource}
 use Rattle.lx_spec.specs.Desk.{Desk}
@@ -19,12 +19,14 @@ pub record ScriptIsBack {S : Type 0} (told_in : ToldBySource S) (places : List (
   pub ended : ScriptHasEnded told_in start source fault lines
 
 -- the transcript, or a prefix of one where the output had a fault
-abbrev pub HasWrittenTranscript : Desk → (ℕ → List (List ℕ)) → (held held' : Option (List ℕ)) → Kept → Tally → Option SinkFault → Type 0
-HasWrittenTranscript d lines held held' console tally None = WholeTranscript d lines held held' console tally
-HasWrittenTranscript d lines held held' console tally (Some fault) = TranscriptPrefix d lines held held'
+abbrev pub HasWrittenTranscript : (ample : Bool) → Desk → (ℕ → List (List ℕ)) → (held held' : Option (List ℕ)) → Kept → Tally
+    → Option SinkFault → Type 0
+HasWrittenTranscript ample d lines held held' console tally None = WholeTranscript ample d lines held held' console tally
+HasWrittenTranscript ample d lines held held' console tally (Some fault) = TranscriptPrefix ample d lines held held'
 
 -- Each place has its source again. `lines` are each operator's, which are numbered from 1; past them there are none, and no fault is told.
-pub record HasCrewed {S K : Type 0} (told_in : ToldBySource S) (told_out : ToldBySink K) (d : Desk)
+-- Where memory was ample no attempt failed.
+pub record HasCrewed {S K : Type 0} (ample : Bool) (told_in : ToldBySource S) (told_out : ToldBySink K) (d : Desk)
     (places places' : List (Option S)) (sink sink' : K) (console : Kept) (tally : Tally) (output : Option SinkFault)
     (told : List (Option OperatorFault)) : Type 0 where
   pub lines : ℕ → List (List ℕ)
@@ -34,4 +36,4 @@ pub record HasCrewed {S K : Type 0} (told_in : ToldBySource S) (told_out : ToldB
   pub none : lines 0 ≡ []
   pub no_more : (operator : ℕ) → length places < operator → lines operator ≡ []
   pub others : (place : ℕ) (fault : OperatorFault) → slice_get told place ≡ Some (Some fault) → place < length places
-  pub written : HasWrittenTranscript d lines (told_out.holds sink) (told_out.holds sink') console tally output
+  pub written : HasWrittenTranscript ample d lines (told_out.holds sink) (told_out.holds sink') console tally output

@@ -9,14 +9,15 @@ use Rattle.lx_io.specs.Causes.{Rose}
 use Rattle.lx_io.specs.Puts.{AppendsFront}
 use Rattle.lx_io.specs.Told.{ToldBySink}
 use Rattle.lx_spec.specs.declared.Line.{Line as Meant}
-use Rattle.lx_spec.specs.CrewText.{CrewEntry, crew_session, crew_text, CrewAllows}
+use Rattle.lx_spec.specs.CrewText.{CrewEntry, crew_session, crew_text}
 use Rattle.lx_spec.specs.Desk.{Desk}
 use Rattle.lx_spec.specs.Kept.{Kept}
 use Rattle.lx_spec.specs.Session.{Session, with_text}
 use Rattle.lx_spec.specs.DeskSession.{DeskState}
 use Rattle.lx_console.specs.ConsoleMeaning.{StandsFor}
 use Rattle.lx_session.specs.declared.tally.Tally.{Tally}
-use Rattle.lx_session.specs.LineAnswer.{LineAnswer}
+use Rattle.lx_session.specs.LineAnswer.{SparedAnswer}
+use Rattle.lx_session.specs.Spared.{HasStood, IsAmple}
 use Rattle.lx_session.specs.LineReply.{counts_in}
 use Rattle.lx_crew.specs.declared.entry.Message.{Message}
 use Rattle.lx_crew.specs.declared.entry.Sent.{Sent}
@@ -24,6 +25,7 @@ use Rattle.lx_crew.specs.declared.entry.Sent.TheVariants.{Line, LongLine, End, R
 use Rattle.lx_crew.specs.declared.rule.View.{View}
 use Rattle.lx_crew.specs.Entries.{text_in, of_place, is_last, has_last}
 use Rattle.lx_crew.specs.Rule.{engine_view, Takes}
+use Rattle.lx_crew.specs.Transcripts.{CrewAllowsBy}
 use Rattle.std.specs.Prelude.{slice_get}
 
 -- Stands for the text of any line of more than 4,096 bytes: each is bad.
@@ -45,47 +47,51 @@ entries_of place number InputTooLong = []
 abbrev pub said : List Message → List CrewEntry
 said entries = flat_map (λ (e : Message). entries_of e.place e.number e.sent) entries
 
--- The name of a line was written and the line done and answered, or a prefix of the name was written.
-pub record NamedAnswer {K : Type 0} (told : ToldBySink K) (sink sink' : K) (result : Result Bool SinkFault)
+-- The name of a line was written and the line done and answered, or a prefix of the name was written. Where the heap refused nothing no
+-- attempt failed.
+pub record NamedAnswer {K : Type 0} (refusals refusals' : ℕ) (told : ToldBySink K) (sink sink' : K) (result : Result Bool SinkFault)
     (s : Session DeskState) (name : List ℕ) (meaning : Option Meant) (console : Kept) (tally : Tally) : Type 0 where
   pub between : K
   pub named : Appends (told.holds sink) (told.holds between) name
-  pub answer : LineAnswer true (λ commands. Unit {0}) told between sink' result (with_text s name) meaning console tally
+  pub answer : SparedAnswer (IsAmple true refusals refusals') true (λ commands. Unit {0}) told between sink' result (with_text s name) meaning
+      console tally
 
-abbrev pub AnswersNamed : {K : Type 0} → ToldBySink K → (sink sink' : K) → Result Bool SinkFault
+abbrev pub AnswersNamed : {K : Type 0} → (refusals refusals' : ℕ) → ToldBySink K → (sink sink' : K) → Result Bool SinkFault
     → Session DeskState → List ℕ → Option Meant → Kept → Tally → Type 0
-AnswersNamed told sink sink' result s name meaning console tally =
+AnswersNamed refusals refusals' told sink sink' result s name meaning console tally =
     (IsErr result × AppendsFront (told.holds sink) (told.holds sink') name)
-    ⊎ NamedAnswer told sink sink' result s name meaning console tally
+    ⊎ NamedAnswer refusals refusals' told sink sink' result s name meaning console tally
 
 -- The entries are done from a desk on, of each is told which attempt failed, if one did, and the session has come so far.
-pub record IsDoneWithEntries (d : Desk) (entries : List CrewEntry) (failures : List (Option ℕ)) (now : Session DeskState) : Type 0 where
+pub record IsDoneWithEntries (ample : Bool) (d : Desk) (entries : List CrewEntry) (failures : List (Option ℕ)) (now : Session DeskState)
+    : Type 0 where
   pub each : length failures ≡ length entries
   pub is : crew_session d entries failures ≡ now
-  pub allows : CrewAllows d entries failures
+  pub allows : CrewAllowsBy ample d entries failures
 
 -- What was popped is answered, and its whole transcript was written.
-pub record AnsweredAll (d : Desk) (popped : List Message) (held held' : Option (List ℕ)) (console : Kept) (tally : Tally) : Type 0 where
+pub record AnsweredAll (ample : Bool) (d : Desk) (popped : List Message) (held held' : Option (List ℕ)) (console : Kept) (tally : Tally)
+    : Type 0 where
   pub failures : List (Option ℕ)
   pub now : Session DeskState
-  pub done : IsDoneWithEntries d (said popped) failures now
+  pub done : IsDoneWithEntries ample d (said popped) failures now
   pub text : Appends held held' now.text
   pub counts : now.counts ≡ counts_in tally
   pub stands : StandsFor now.state.desk console
 
 -- A prefix of the transcript of the first of it was written.
-pub record AnsweredPart (d : Desk) (popped : List Message) (held held' : Option (List ℕ)) : Type 0 where
+pub record AnsweredPart (ample : Bool) (d : Desk) (popped : List Message) (held held' : Option (List ℕ)) : Type 0 where
   pub first : List Message
   pub rest : List Message
   pub are : popped ≡ first ++ rest
   pub failures : List (Option ℕ)
-  pub allows : CrewAllows d (said first) failures
+  pub allows : CrewAllowsBy ample d (said first) failures
   pub text : AppendsFront held held' (crew_text d (said first) failures)
 
 -- by the fault of the output
-abbrev pub HasAnswered : Desk → List Message → (held held' : Option (List ℕ)) → Kept → Tally → Option SinkFault → Type 0
-HasAnswered d popped held held' console tally None = AnsweredAll d popped held held' console tally
-HasAnswered d popped held held' console tally (Some fault) = AnsweredPart d popped held held'
+abbrev pub HasAnswered : (ample : Bool) → Desk → List Message → (held held' : Option (List ℕ)) → Kept → Tally → Option SinkFault → Type 0
+HasAnswered ample d popped held held' console tally None = AnsweredAll ample d popped held held' console tally
+HasAnswered ample d popped held held' console tally (Some fault) = AnsweredPart ample d popped held held'
 
 -- Neither count of the output has fallen, and a fault that is new comes only where its own count rose. Where there is none now, there was
 -- none before, and both counts stand as they were.
@@ -102,20 +108,22 @@ Marked e before after = (k : ℕ) → slice_get after k ≡ Some true → (slice
     ((e.place ≡ k) × (is_last e.sent ≡ true))
 
 -- one entry was popped and answered
-pub record NextEntry (v w : View) (held held' : Option (List ℕ)) (console console' : Kept) (tally tally' : Tally)
+pub record NextEntry (refusals refusals' : ℕ) (v w : View) (held held' : Option (List ℕ)) (console console' : Kept) (tally tally' : Tally)
     (output output' : Option SinkFault) (ended ended' : List Bool) : Type 0 where
   pub entry : Message
   pub takes : Takes v entry w
   pub marked : Marked entry ended ended'
-  pub answered : (d : Desk) (popped : List Message) (start : Option (List ℕ)) → HasAnswered d popped start held console tally output
-      → HasAnswered d (popped ++ entry ∷ []) start held' console' tally' output'
+  pub answered : (ample : Bool) → (ample ≡ true → HasStood refusals refusals') → (d : Desk) (popped : List Message) (start : Option (List ℕ))
+      → HasAnswered ample d popped start held console tally output → HasAnswered ample d (popped ++ entry ∷ []) start held' console' tally' output'
 
 -- The engine took entries to the last of each operator and answered them. Where the output had no fault it keeps nothing back.
-pub record HasServedEntries {K : Type 0} (told : ToldBySink K) (operators : ℕ) (v : View)
+pub record HasServedEntries {K : Type 0} (refusals refusals' : ℕ) (told : ToldBySink K) (operators : ℕ) (v : View)
     (sink sink' : K) (console console' : Kept) (tally : Tally) (output : Option SinkFault) : Type 0 where
   pub popped : List Message
   pub view : v ≡ engine_view operators popped []
   pub ended : (k : ℕ) → k < operators → has_last (of_place k popped) ≡ true
-  pub answered : (d : Desk) → StandsFor d console → HasAnswered d popped (told.holds sink) (told.holds sink') console' tally output
+  pub later : refusals ≤ refusals'
+  pub answered : (ample : Bool) → (ample ≡ true → HasStood refusals refusals') → (d : Desk) → StandsFor d console
+      → HasAnswered ample d popped (told.holds sink) (told.holds sink') console' tally output
   pub cause : OutputCause told sink sink' None output
   pub handed_on : output ≡ None → told.back sink' ≡ []

@@ -1,21 +1,22 @@
 //! The answer to one entry.
 #![tactic(auto, using(lx_io::proofs::Chain::puts))]
 
-ghost use Rattle.std.specs.Prelude.{◌≡◌, ◌+◌, None, Some, List, ℕ, ◌++◌, ◌∷◌, [], option_copied};
+ghost use Rattle.std.specs.Prelude.{◌≡◌, ◌≤◌, ◌+◌, None, Some, Bool, true, List, ℕ, ◌++◌, ◌∷◌, [], option_copied};
 ghost use Rattle.lx_io.specs.Puts.{Puts, HasSinkCause};
 ghost use Rattle.lx_spec.specs.CrewText.{op_text};
 ghost use Rattle.lx_spec.specs.Desk.{Desk};
 ghost use Rattle.lx_session.specs.LineState.{meaning_of};
 ghost use Rattle.lx_session.specs.LineReply.{TallyHasRoom, HasOneMore};
 ghost use Rattle.lx_session.specs.LineAnswer.{FromDesk};
+ghost use Rattle.lx_session.specs.Spared.{HasStood};
 ghost use Rattle.lx_crew.specs.declared.entry.Message.{Message as AnEntry};
 ghost use Rattle.lx_crew.specs.EngineAnswers.{AnswersNamed, HasAnswered, OutputCause, named_line};
 
 use crate::entry::{Message, Sent};
 use lx_console::Console;
-use lx_io::{Sink, SinkFault, put_all};
+use lx_io::{Heap, Sink, SinkFault, put_all};
 use lx_lex::put_count_and;
-use lx_session::{NoListener, Tally, answer};
+use lx_session::{NoListener, Tally, answer_in};
 
 /// Appends the name of a line: `op`, its operator from 1, and its number among that operator's lines.
 fn put_name<K: Sink>(place: u8, number: u32, sink: &mut K) -> Result<(), SinkFault>
@@ -27,8 +28,9 @@ fn put_name<K: Sink>(place: u8, number: u32, sink: &mut K) -> Result<(), SinkFau
 }
 
 /// Appends the name of a line, does the line and appends its replies, and counts them. None stands for a line that is too
-/// long, which is bad. It answers false exactly for `quit`.
-fn answer_line<K: Sink>(
+/// long, which is bad. It answers false exactly for `quit`. An edit takes memory from the heap.
+fn answer_line<H: Heap, K: Sink>(
+    heap: &mut H,
     console: &mut Console,
     place: u8,
     number: u32,
@@ -37,17 +39,19 @@ fn answer_line<K: Sink>(
     tally: &mut Tally,
 ) -> Result<bool, SinkFault>
     requires room { TallyHasRoom tally.old }
-    ensures answered { FromDesk console.old tally.old (λ s. AnswersNamed K.Sink sink.old sink.new result s
-        (op_text (named_line place number [])) (meaning_of (option_copied line.entry)) console.new tally.new) }
+    ensures answered { FromDesk console.old tally.old (λ s. AnswersNamed (H.refusals heap.old) (H.refusals heap.new) K.Sink sink.old sink.new
+        result s (op_text (named_line place number [])) (meaning_of (option_copied line.entry)) console.new tally.new) }
     ensures cause { HasSinkCause K.Sink sink.old sink.new result }
     ensures more { HasOneMore tally.old tally.new }
+    ensures later { H.refusals heap.old ≤ H.refusals heap.new }
 {
     put_name(place, number, sink)?;
-    answer(&mut NoListener, console, line, sink, tally)
+    answer_in(&mut NoListener, heap, console, line, sink, tally)
 }
 
 /// Answers an entry, unless the output had a fault. Then it is thrown away.
-pub(crate) fn answer_entry<K: Sink>(
+pub(crate) fn answer_entry<H: Heap, K: Sink>(
+    heap: &mut H,
     console: &mut Console,
     entry: &Message,
     sink: &mut K,
@@ -55,10 +59,12 @@ pub(crate) fn answer_entry<K: Sink>(
     output: &mut Option<SinkFault>,
 )
     requires room { TallyHasRoom tally.old }
-    ensures answered { (d : Desk) (popped : List AnEntry) (start : _) → HasAnswered d popped start (K.holds sink.old) console.old tally.old
-        output.old → HasAnswered d (popped ++ entry.now ∷ []) start (K.holds sink.new) console.new tally.new output.new }
+    ensures answered { (ample : Bool) → (ample ≡ true → HasStood (H.refusals heap.old) (H.refusals heap.new)) → (d : Desk)
+        (popped : List AnEntry) (start : _) → HasAnswered ample d popped start (K.holds sink.old) console.old tally.old output.old
+        → HasAnswered ample d (popped ++ entry.now ∷ []) start (K.holds sink.new) console.new tally.new output.new }
     ensures cause { OutputCause K.Sink sink.old sink.new output.old output.new }
     ensures more { HasOneMore tally.old tally.new }
+    ensures later { H.refusals heap.old ≤ H.refusals heap.new }
 {
     if output.is_some() {
         return;
@@ -68,14 +74,14 @@ pub(crate) fn answer_entry<K: Sink>(
         Sent::LongLine => None,
         _ => return,
     };
-    *output = answer_line(console, entry.place, entry.number, line, sink, tally).err();
+    *output = answer_line(heap, console, entry.place, entry.number, line, sink, tally).err();
 }
 
 /// Hands on what the output keeps back, unless it had a fault. Without one nothing is kept back any more.
 pub(crate) fn flush<K: Sink>(sink: &mut K, output: &mut Option<SinkFault>)
-    ensures answered { (d : Desk) (popped : List AnEntry) (start : _) (console : _) (tally : _)
-        → HasAnswered d popped start (K.holds sink.old) console tally output.old
-        → HasAnswered d popped start (K.holds sink.new) console tally output.new }
+    ensures answered { (ample : Bool) (d : Desk) (popped : List AnEntry) (start : _) (console : _) (tally : _)
+        → HasAnswered ample d popped start (K.holds sink.old) console tally output.old
+        → HasAnswered ample d popped start (K.holds sink.new) console tally output.new }
     ensures cause { OutputCause K.Sink sink.old sink.new output.old output.new }
     ensures handed_on { output.new ≡ None → K.back sink.new ≡ [] }
 {

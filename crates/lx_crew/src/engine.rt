@@ -14,7 +14,7 @@ use crossbeam_queue::Pass;
 use crossbeam_utils::sync::Parker;
 use lx_base::OPERATORS;
 use lx_console::Console;
-use lx_io::{Sink, SinkFault};
+use lx_io::{Heap, Sink, SinkFault};
 use lx_session::Tally;
 use lx_work::Work;
 use std::sync::Wait;
@@ -24,11 +24,13 @@ pub(crate) const PLACES: usize = OPERATORS as usize;
 
 /// What the engine is lent, and what came of it.
 #[derive(Drop)]
-pub struct CrewEngine<'q, 'p, 'w, 'c, 'k, K> {
+pub struct CrewEngine<'q, 'p, 'w, 'h, 'c, 'k, H, K> {
     pub queue: &'q Queue,
     pub pass: &'p mut Pass<Message, View>,
     /// It waits here while there is nothing to take.
     pub parker: &'w mut Parker,
+    /// Edits take memory from it.
+    pub heap: &'h mut H,
     pub console: &'c mut Console,
     pub sink: &'k mut K,
     pub operators: usize,
@@ -36,7 +38,7 @@ pub struct CrewEngine<'q, 'p, 'w, 'c, 'k, K> {
     pub output: Option<SinkFault>,
 }
 
-impl<K: Sink> Work for CrewEngine<'_, '_, '_, '_, '_, K> {
+impl<H: Heap, K: Sink> Work for CrewEngine<'_, '_, '_, '_, '_, '_, H, K> {
     ghost use Rattle.std.specs.Prelude.{◌≡◌, ◌≤◌, [], None};
     ghost use Rattle.crossbeam_queue.specs.Passes.{view, IsPassOf, IsSamePass};
     ghost use Rattle.lx_crew.specs.Rule.{engine_view};
@@ -45,11 +47,12 @@ impl<K: Sink> Work for CrewEngine<'_, '_, '_, '_, '_, K> {
     ghost ready = { λ x. IsPassOf x.queue.now x.pass.now × ((view x.pass.now ≡ engine_view x.operators [] []) × (x.operators ≤ 4)) };
 
     ghost done = { λ x y. (y.pass.ghost_name ≡ x.pass.ghost_name)
+        × ((y.heap.ghost_name ≡ x.heap.ghost_name)
         × ((y.console.ghost_name ≡ x.console.ghost_name)
         × ((y.sink.ghost_name ≡ x.sink.ghost_name)
         × (IsSamePass x.pass.now y.pass.now
-        × HasServedEntries K.Sink x.operators (view y.pass.now) x.sink.now y.sink.now x.console.now y.console.now y.tally
-        y.output))) };
+        × HasServedEntries (H.refusals x.heap.now) (H.refusals y.heap.now) K.Sink x.operators (view y.pass.now) x.sink.now y.sink.now
+        x.console.now y.console.now y.tally y.output)))) };
 
     fn run<R: Wait>(&mut self, rt: &R) {
         self.tally = Tally::new();
@@ -58,6 +61,7 @@ impl<K: Sink> Work for CrewEngine<'_, '_, '_, '_, '_, K> {
             self.queue,
             self.pass,
             self.parker,
+            self.heap,
             self.console,
             self.sink,
             self.operators,
@@ -67,11 +71,12 @@ impl<K: Sink> Work for CrewEngine<'_, '_, '_, '_, '_, K> {
 }
 
 /// Takes entries and answers them, until each operator has ended. After a fault of the output they are thrown away.
-fn serve<R: Wait, K: Sink>(
+fn serve<R: Wait, H: Heap, K: Sink>(
     rt: &R,
     queue: &Queue,
     pass: &mut Pass<Message, View>,
     parker: &Parker,
+    heap: &mut H,
     console: &mut Console,
     sink: &mut K,
     operators: usize,
@@ -82,8 +87,8 @@ fn serve<R: Wait, K: Sink>(
     requires few { operators ≤ 4 }
     requires none { counts_in tally.old ≡ record { ok = 0; refused = 0; bad = 0 } }
     ensures queue { IsSamePass pass.old pass.new }
-    ensures served { HasServedEntries K.Sink operators (view pass.new) sink.old sink.new console.old console.new tally.new
-        result }
+    ensures served { HasServedEntries (H.refusals heap.old) (H.refusals heap.new) K.Sink operators (view pass.new) sink.old sink.new
+        console.old console.new tally.new result }
 {
     let mut ended = [false; PLACES];
     let mut output = None;
@@ -92,7 +97,16 @@ fn serve<R: Wait, K: Sink>(
             flush(sink, &mut output);
             return output;
         }
-        if !take_one(queue, pass, console, sink, tally, &mut output, &mut ended) {
+        if !take_one(
+            queue,
+            pass,
+            heap,
+            console,
+            sink,
+            tally,
+            &mut output,
+            &mut ended,
+        ) {
             flush(sink, &mut output);
             wait(rt, parker, sink, output);
         }
@@ -108,9 +122,10 @@ fn wait<R: Wait, K: Sink>(rt: &R, parker: &Parker, sink: &K, output: Option<Sink
 }
 
 /// Pops an entry and answers it, if there is one.
-fn take_one<K: Sink>(
+fn take_one<H: Heap, K: Sink>(
     queue: &Queue,
     pass: &mut Pass<Message, View>,
+    heap: &mut H,
     console: &mut Console,
     sink: &mut K,
     tally: &mut Tally,
@@ -121,18 +136,19 @@ fn take_one<K: Sink>(
     requires pops { (view pass.old).pops ≡ true }
     requires room { TallyHasRoom tally.old }
     ensures queue { IsSamePass pass.old pass.new }
-    ensures some { result ≡ true → NextEntry (view pass.old) (view pass.new) (K.holds sink.old) (K.holds sink.new) console.old console.new
-        tally.old tally.new output.old output.new ended.old ended.new }
+    ensures some { result ≡ true → NextEntry (H.refusals heap.old) (H.refusals heap.new) (view pass.old) (view pass.new) (K.holds sink.old)
+        (K.holds sink.new) console.old console.new tally.old tally.new output.old output.new ended.old ended.new }
     ensures none { result ≡ false → (view pass.new ≡ view pass.old) × ((sink.new ≡ sink.old) × ((console.new ≡ console.old)
         × ((tally.new ≡ tally.old) × ((output.new ≡ output.old) × (ended.new ≡ ended.old))))) }
     ensures cause { OutputCause K.Sink sink.old sink.new output.old output.new }
     ensures more { HasOneMore tally.old tally.new }
+    ensures later { H.refusals heap.old ≤ H.refusals heap.new }
 {
     let Some(entry) = queue.try_pop_as::<Gets>(pass) else {
         return false;
     };
     mark(ended, &entry);
-    answer_entry(console, &entry, sink, tally, output);
+    answer_entry(heap, console, &entry, sink, tally, output);
     true
 }
 

@@ -7,6 +7,7 @@ mod entry;
 mod fault;
 mod follows;
 mod operator;
+mod queue_heap;
 mod rule;
 mod running;
 
@@ -15,5 +16,6 @@ pub use entry::{LineText, Message, Sent};
 pub use fault::OperatorFault;
 pub use follows::Follows;
 pub use operator::Operator;
+pub use queue_heap::QueueHeap;
 pub use rule::{Enters, Gets, Leaves, Queue, QueueLaw, Sends, Total, View};
-pub use running::{Crewed, crew};
+pub use running::{Crewed, crew, crew_in};

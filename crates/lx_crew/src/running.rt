@@ -1,10 +1,12 @@
 //! A crew: the engine and the operators at the same time.
 
-ghost use Rattle.std.specs.Prelude.{◌≡◌, ◌+◌, ◌<◌, ◌≤◌, ℕ, List, [], ◌++◌, ◌∷◌, length, map, true, false, slice_get, Some, None};
+ghost use Rattle.std.specs.Prelude.{◌≡◌, ◌+◌, ◌<◌, ◌≤◌, ◌⊎◌, ℕ, Bool, List, [], ◌++◌, ◌∷◌, length, map, true, false, slice_get, Some, None};
 ghost use Rattle.std.specs.Prelude.{IfOk, OnErr, IsSome, vec_len, vec_capacity};
 ghost use Rattle.std.specs.List.{All, AllZip};
 ghost use Rattle.crossbeam_queue.specs.Passes.{view, IsPassOf, IsSamePass};
+ghost use Rattle.lx_io.specs.Causes.{Rose};
 ghost use Rattle.lx_spec.specs.Desk.{Desk};
+ghost use Rattle.lx_session.specs.Spared.{HasStood};
 ghost use Rattle.lx_console.specs.ConsoleMeaning.{StandsFor};
 ghost use Rattle.lx_base.specs.declared.TheConstants.{OPERATORS};
 ghost use Rattle.lx_crew.specs.Rule.{engine_view};
@@ -17,19 +19,17 @@ use crate::engine::{CrewEngine, PLACES};
 use crate::entry::Message;
 use crate::fault::OperatorFault;
 use crate::operator::Operator;
+use crate::queue_heap::QueueHeap;
 use crate::rule::{Enters, Leaves, Queue, Total, View};
 use crossbeam_queue::Pass;
 use crossbeam_utils::sync::{Parker, Unparker};
 use lx_console::Console;
-use lx_io::{Sink, SinkFault, Source};
+use lx_io::{Heap, Sink, SinkFault, Source, SystemHeap};
 use lx_session::Tally;
 use lx_work::run_after;
 use std::alloc::{AllocError, Global};
 use std::sync::Wait;
 use std::thread::Threads;
-
-/// How many entries the queue has room for.
-const QUEUE_PLACES: usize = 64;
 
 /// What a crew came to.
 #[derive(Drop)]
@@ -60,22 +60,50 @@ pub fn crew<R: Threads + Wait + Sync, S: Source + Send + Drop, K: Sink + Send>(
     requires most { length operators.old ≤ OPERATORS }
     requires full { EachAt (λ k place. IsSome place) operators.old }
     ensures err { OnErr result ((console.new ≡ console.old) × ((sink.new ≡ sink.old) × (operators.new ≡ operators.old))) }
-    ensures crewed { IfOk result (λ c. (d : Desk) → StandsFor d console.old → HasCrewed S.Source K.Sink d operators.old
+    ensures crewed { IfOk result (λ c. (d : Desk) → StandsFor d console.old → HasCrewed false S.Source K.Sink d operators.old
         operators.new sink.old sink.new console.new c.tally c.output c.operators) }
     ensures cause { IfOk result (λ c. OutputCause K.Sink sink.old sink.new None c.output) }
     ensures handed_on { IfOk result (λ c. c.output ≡ None → K.back sink.new ≡ []) }
 {
-    let count = operators.len();
-    let mut parker = Parker::new(alloc)?;
-    let waker = parker.unparker().clone()?;
-    let (queue, mut pass) = Queue::ruled(alloc, QUEUE_PLACES)?;
-    let mut works = Vec::with_capacity(alloc, count)?;
+    let mut heap = SystemHeap::new(alloc);
+    let mut queues = QueueHeap::new(alloc);
+    crew_in(rt, &mut heap, &mut queues, console, operators, sink)
+}
+
+/// The same, by heaps. `AllocError` comes only where one of them refused memory in this call, and an edit is refused with `Memory`
+/// only where the first did.
+pub fn crew_in<R: Threads + Wait + Sync, H: Heap + Send, S: Source + Send + Drop, K: Sink + Send>(
+    rt: &R,
+    heap: &mut H,
+    queues: &mut QueueHeap,
+    console: &mut Console,
+    operators: &mut [Option<S>],
+    sink: &mut K,
+) -> Result<Crewed, AllocError>
+    requires some { 1 ≤ length operators.old }
+    requires most { length operators.old ≤ OPERATORS }
+    requires full { EachAt (λ k place. IsSome place) operators.old }
+    ensures err { OnErr result ((console.new ≡ console.old) × ((sink.new ≡ sink.old) × (operators.new ≡ operators.old))) }
+    ensures crewed { (ample : Bool) → (ample ≡ true → HasStood (H.refusals heap.old) (H.refusals heap.new))
+        → IfOk result (λ c. (d : Desk) → StandsFor d console.old → HasCrewed ample S.Source K.Sink d operators.old operators.new
+        sink.old sink.new console.new c.tally c.output c.operators) }
+    ensures cause { IfOk result (λ c. OutputCause K.Sink sink.old sink.new None c.output) }
+    ensures handed_on { IfOk result (λ c. c.output ≡ None → K.back sink.new ≡ []) }
+    ensures memory { OnErr result (Rose (H.refusals heap.old) (H.refusals heap.new) ⊎ Rose queues.old queues.new) }
+    ensures later { H.refusals heap.old ≤ H.refusals heap.new }
+    ensures queues_later { queues.old ≤ queues.new }
+{
+    let mut parker = queues.parker()?;
+    let waker = queues.unparker(&parker)?;
+    let (queue, mut pass) = queues.queue()?;
+    let mut works = heap.room(operators.len())?;
     hire(&queue, &waker, &mut pass, operators, &mut works);
     let (tally, output) = perform(
         rt,
         &queue,
         &mut pass,
         &mut parker,
+        heap,
         console,
         sink,
         works.as_mut_slice(),
@@ -90,11 +118,12 @@ pub fn crew<R: Threads + Wait + Sync, S: Source + Send + Drop, K: Sink + Send>(
 }
 
 /// Runs the engine and the operators at the same time.
-fn perform<'q, 'e, R: Threads + Wait + Sync, S: Source + Send, K: Sink + Send>(
+fn perform<'q, 'e, R: Threads + Wait + Sync, H: Heap + Send, S: Source + Send, K: Sink + Send>(
     rt: &R,
     queue: &Queue,
     pass: &mut Pass<Message, View>,
     parker: &mut Parker,
+    heap: &mut H,
     console: &mut Console,
     sink: &mut K,
     works: &mut [Operator<'q, 'e, S>],
@@ -104,14 +133,15 @@ fn perform<'q, 'e, R: Threads + Wait + Sync, S: Source + Send, K: Sink + Send>(
     requires few { length works.old ≤ 4 }
     requires ready { All HasSentNothing works.old }
     ensures queue { IsSamePass pass.old pass.new }
-    ensures served { HasServedEntries K.Sink (length works.old) (view pass.new) sink.old sink.new console.old console.new
-        result.0 result.1 }
+    ensures served { HasServedEntries (H.refusals heap.old) (H.refusals heap.new) K.Sink (length works.old) (view pass.new)
+        sink.old sink.new console.old console.new result.0 result.1 }
     ensures ran { AllZip (HasRunOperator S.Source) works.old works.new }
 {
     let mut engine = CrewEngine {
         queue,
         pass: &mut *pass,
         parker: &mut *parker,
+        heap: &mut *heap,
         console: &mut *console,
         sink: &mut *sink,
         operators: works.len(),

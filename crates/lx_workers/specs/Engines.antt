@@ -1,5 +1,5 @@
 -- The engine's commands: those that are published, and then those that aren't yet.
-use Rattle.std.specs.Prelude.{◌≡◌, ◌^◌, List, [], ◌++◌, length, Bool, ltb, Option, Result, IfSome, OnOk}
+use Rattle.std.specs.Prelude.{◌≡◌, ◌≤◌, ◌^◌, ℕ, List, [], ◌++◌, length, Bool, true, ◌&&◌, ltb, Option, Result, IfSome, OnOk}
 use Rattle.std.specs.Prelude.{IsSomeAnd}
 use mathlib.Core.Path.{sym, ap, ◌∙◌}
 use mathlib.Core.List.{append-nil, append_assoc}
@@ -8,6 +8,7 @@ use Rattle.lx_lex.specs.declared.lines.Lines.{Lines}
 use Rattle.lx_lex.specs.Unread.{SameSource, bytes_taken, source_left, unread}
 use Rattle.lx_spec.specs.Show.{Show}
 use Rattle.lx_spec.specs.Desk.{Desk}
+use Rattle.lx_spec.specs.Session.{Answering}
 use Rattle.lx_spec.specs.DeskSession.{begun, desk_answering}
 use Rattle.lx_spec.specs.Kept.{Kept}
 use Rattle.lx_console.specs.ConsoleMeaning.{StandsFor}
@@ -16,6 +17,7 @@ use Rattle.lx_session.specs.declared.tally.Tally.{Tally}
 use Rattle.lx_session.specs.Listening.{HasDone}
 use Rattle.lx_session.specs.ScriptAnswer.{ScriptAnswered}
 use Rattle.lx_session.specs.SessionOutcome.{HasSessionCause, KeepsLimit}
+use Rattle.lx_session.specs.Spared.{HasStood, spared}
 use Rattle.lx_gate.specs.Desks.{IsInStep}
 use Rattle.lx_spec.specs.declared.Command.{Command}
 use Rattle.lx_gate.specs.Gates.{Published}
@@ -32,6 +34,16 @@ HasAccepted gate unsent gate' unsent' commands = accepted_of gate' unsent' ≡ a
 abbrev pub leaves_room : List Command → Bool
 leaves_room commands = ltb (length commands) (2 ^ 62)
 
+-- How an engine answers that has accepted these commands: it admits every command, unless there were too many to count, and where memory was
+-- ample too no attempt fails.
+abbrev pub engine_answering : (ample : Bool) → List Command → Answering (List ℕ)
+engine_answering ample commands = spared (ample && leaves_room commands) (desk_answering (leaves_room commands))
+
+-- By the count of a writer's heap: where it refused nothing and nothing waited to be published, nothing waits.
+pub record SendsAll (refusals refusals' : ℕ) (unsent unsent' : List Command) : Type 0 where
+  pub later : refusals ≤ refusals'
+  pub sent : HasStood refusals refusals' → unsent ≡ [] → unsent' ≡ []
+
 pub accepted_nothing : (gate : Published) (unsent : List Command) → HasAccepted gate unsent gate unsent []
 accepted_nothing gate unsent = sym (append-nil (accepted_of gate unsent))
 
@@ -43,15 +55,18 @@ accepted_both gate unsent gate' unsent' gate'' unsent'' before after one two =
     two ∙ (ap (λ l. l ++ after) one ∙ append_assoc (accepted_of gate unsent) before after)
 
 -- A session was played. The console stands for the desk after all commands, and those that its lines came to are published or unsent. It
--- answered as a session in which every command is admitted, unless there were too many to count.
+-- answered as a session in which every command is admitted, unless there were too many to count; and where the heap refused nothing, no attempt
+-- failed. What is unsent is so because the writer's heap refused some.
 pub record HasRun {S K : Type 0} (told_in : ToldBySource S) (told_out : ToldBySink K)
-    (show : Show) (gate : Published) (unsent : List Command) (console : Kept) (lines : Lines S) (output : K)
-    (gate' : Published) (unsent' : List Command) (console' : Kept) (lines' : Lines S) (output' : K) (result : Result Tally SessionFault)
-    : Type 0 where
+    (show : Show) (refusals writers : ℕ) (gate : Published) (unsent : List Command) (console : Kept) (lines : Lines S) (output : K)
+    (refusals' writers' : ℕ) (gate' : Published) (unsent' : List Command) (console' : Kept) (lines' : Lines S) (output' : K)
+    (result : Result Tally SessionFault) : Type 0 where
   pub in_step : IsInStep show gate' unsent' console'
   pub same_source : SameSource lines lines'
-  pub outcome : (d : Desk) → StandsFor d console → IfSome (unread told_in lines) (λ bytes.
-      ScriptAnswered (desk_answering (leaves_room (accepted_of gate' unsent'))) (HasDone (HasAccepted gate unsent gate' unsent') d console')
+  pub later : refusals ≤ refusals'
+  pub sends : SendsAll writers writers' unsent unsent'
+  pub outcome : (ample : Bool) → (ample ≡ true → HasStood refusals refusals') → (d : Desk) → StandsFor d console
+      → IfSome (unread told_in lines) (λ bytes. ScriptAnswered (engine_answering ample (accepted_of gate' unsent')) (HasDone (HasAccepted gate unsent gate' unsent') d console')
       (begun d) (bytes_taken lines) bytes (unread told_in lines') (source_left told_in lines') (told_out.holds output) (told_out.holds output') result)
   pub limit : IfSome (unread told_in lines) (λ bytes. KeepsLimit (bytes_taken lines) bytes result)
   pub cause : HasSessionCause told_in told_out lines lines' output output' result
@@ -59,7 +74,8 @@ pub record HasRun {S K : Type 0} (told_in : ToldBySource S) (told_out : ToldBySi
 
 -- the same of a gate that is there, with nothing unsent before
 abbrev pub HasRunFrom : {S K : Type 0} → ToldBySource S → ToldBySink K → Show
-    → Option Published → Kept → Lines S → K → Option Published → List Command → Kept → Lines S → K → Result Tally SessionFault → Type 0
-HasRunFrom told_in told_out show gate console lines output gate' unsent' console' lines' output' result =
-    IsSomeAnd gate (λ held. IsSomeAnd gate' (λ held'.
-    HasRun told_in told_out show held [] console lines output held' unsent' console' lines' output' result))
+    → (refusals writers : ℕ) → Option Published → Kept → Lines S → K
+    → (refusals' writers' : ℕ) → Option Published → List Command → Kept → Lines S → K → Result Tally SessionFault → Type 0
+HasRunFrom told_in told_out show refusals writers gate console lines output refusals' writers' gate' unsent' console' lines' output' result =
+    IsSomeAnd gate (λ held. IsSomeAnd gate' (λ held'. HasRun told_in told_out show refusals writers held [] console lines output
+    refusals' writers' held' unsent' console' lines' output' result))

@@ -10,7 +10,8 @@ returns-clause-answered g c =
       | in-Line w ↦ said_text c.args.entry.now w.in-Line.line _ w.in-Line.is (ap option_copied w.line-is ∙ ap Some w.bytes.ensures.text)
       | in-LongLine w ↦ said_long c.args.entry.now _ w.in-LongLine.is (ap option_copied w.line-is)
     ] in
-    λ d popped start so_far.
-    answered_entry g.K.Sink c.args.sink.now c.answer_line.new.sink c.answer_line.result d popped start
-    _ _ c.args.tally.now c.answer_line.new.tally c.args.entry.now (option_copied c.match-entry.line) c.args.output.now _ said
-    (none_is c.args.output.now c.if-is_some.ensures) c.err.ensures.value c.answer_line.ensures.answered so_far
+    λ ample stood d popped start so_far.
+    answered_entry ample (g.H.Heap.refusals c.args.heap.now) (g.H.Heap.refusals c.answer_line.new.heap) g.K.Sink c.args.sink.now
+    c.answer_line.new.sink c.answer_line.result d popped start _ _ c.args.tally.now c.answer_line.new.tally c.args.entry.now
+    (option_copied c.match-entry.line) c.args.output.now _ said (none_is c.args.output.now c.if-is_some.ensures) c.err.ensures.value stood
+    c.answer_line.ensures.answered so_far

@@ -9,5 +9,5 @@ returns-clause-answered g c = λ s stands counted.
     inr (record {
       between = c.put_name.new.sink;
       named = c.in_ok-put_name.ensures.whole;
-      answer = c.answer.ensures.answered (with_text s (op_text (named_line c.args.place c.args.number []))) stands counted;
+      answer = c.answer_in.ensures.answered (with_text s (op_text (named_line c.args.place c.args.number []))) stands counted;
     })

@@ -1,4 +1,4 @@
-use Rattle.lx_crew.proofs.Imports.{rules, [], ◌∷◌, ◌++◌, slice_get, ap, sym, ◌∙◌, arith, Counts}
+use Rattle.lx_crew.proofs.Imports.{rules, [], ◌∷◌, ◌++◌, slice_get, ap, sym, ◌∙◌, arith, Counts, stood_since, stood_until}
 use Rattle.lx_crew.proofs.AnswerProgress.{answered_none}
 use Rattle.lx_crew.proofs.EngineSteps.{takes_on, ended_on, cause_none, cause_then, answered_same}
 use Rattle.lx_crew.proofs.engine.serve.Goals as goal
@@ -12,7 +12,8 @@ loop-init g c =
       popped = [];
       view = c.requires.view;
       ended = search rules;
-      answered = λ d stands. answered_none d _ _ c.args.tally.now stands none;
+      later = omega arith;
+      answered = λ ample stood d stands. answered_none ample d _ _ c.args.tally.now stands none;
       cause = cause_none _ _ _;
       ok = omega (arith, ap (λ (n : Counts). n.ok) none);
       refused = omega (arith, ap (λ (n : Counts). n.refused) none);
@@ -25,7 +26,8 @@ returns-then-all_of-clause-served g c =
       popped = i.popped;
       view = i.view;
       ended = λ k below. i.ended k (c.all_of.ensures c.if-all_of.true k below);
-      answered = λ d stands. c.flush.ensures.answered d i.popped _ _ _ (i.answered d stands);
+      later = i.later;
+      answered = λ ample stood d stands. c.flush.ensures.answered ample d i.popped _ _ _ (i.answered ample stood d stands);
       cause = cause_then _ _ _ _ _ _ _ i.cause c.flush.ensures.cause;
       handed_on = c.flush.ensures.handed_on;
     }
@@ -40,8 +42,10 @@ loop-preserved-then-not-take_one g c =
       popped = i.popped;
       view = n.0 ∙ i.view;
       ended = λ k is. i.ended k (ap (λ marks. slice_get marks k) (sym n.1.1.1.1.1) ∙ is);
-      answered = λ d stands. c.flush-then-not-take_one.ensures.answered d i.popped _ _ _
-          (answered_same g.K.Sink _ _ d i.popped _ _ _ _ _ _ _ n.1.0 n.1.1.0 n.1.1.1.0 n.1.1.1.1.0 (i.answered d stands));
+      later = omega (arith, i.later, c.take_one.ensures.later);
+      answered = λ ample stood d stands. c.flush-then-not-take_one.ensures.answered ample d i.popped _ _ _
+          (answered_same g.K.Sink _ _ ample d i.popped _ _ _ _ _ _ _ n.1.0 n.1.1.0 n.1.1.1.0 n.1.1.1.1.0
+          (i.answered ample (λ is. stood_until _ _ _ c.take_one.ensures.later (stood is)) d stands));
       cause = cause_then _ _ _ _ _ _ _ (cause_then _ _ _ _ _ _ _ i.cause c.take_one.ensures.cause) c.flush-then-not-take_one.ensures.cause;
       ok = search rules;
       refused = search rules;
@@ -58,7 +62,9 @@ loop-preserved g c =
       popped = i.popped ++ t.entry ∷ [];
       view = takes_on _ _ _ _ _ i.view t.takes;
       ended = ended_on _ _ _ _ t.marked i.ended;
-      answered = λ d stands. t.answered d i.popped _ (i.answered d stands);
+      later = omega (arith, i.later, c.take_one.ensures.later);
+      answered = λ ample stood d stands. t.answered ample (λ is. stood_since _ _ _ i.later (stood is)) d i.popped _
+          (i.answered ample (λ is. stood_until _ _ _ c.take_one.ensures.later (stood is)) d stands);
       cause = cause_then _ _ _ _ _ _ _ i.cause c.take_one.ensures.cause;
       ok = search rules;
       refused = search rules;

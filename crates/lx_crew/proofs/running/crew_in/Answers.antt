@@ -1,11 +1,8 @@
-use Rattle.lx_crew.proofs.Imports.{◌≡◌, [], length, slice_get, Some, ap, sym, subst, ◌∙◌, arith, AllZip-long, View, EachAt, Learned, engine_view}
+use Rattle.lx_crew.proofs.Imports.{◌≡◌, [], length, slice_get, Some, ap, sym, subst, ◌∙◌, arith, stood_since, AllZip-long, View, EachAt, Learned, engine_view}
 use Rattle.lx_crew.proofs.Crews.{crewed}
-use Rattle.lx_crew.proofs.Rules.{begins, totals}
+use Rattle.lx_crew.proofs.Rules.{totals}
 use Rattle.lx_crew.proofs.Works.{ready_all, works_back, after_release, carries, retired, retired_works}
-use Rattle.lx_crew.proofs.running.crew.Goals as goal
-
-pub ruled-requires-clause-rule : goal.ruled-requires-clause-rule
-ruled-requires-clause-rule g c = begins
+use Rattle.lx_crew.proofs.running.crew_in.Goals as goal
 
 pub perform-output-requires-clause-view : goal.perform-output-requires-clause-view
 perform-output-requires-clause-view g c κs within =
@@ -34,7 +31,7 @@ learn_as-requires-clause-rule g c =
     totals _ _ (ap (λ (v : View). v.pops) c.release-faults.ensures.kept ∙ ap (λ (v : View). v.pops) c.perform-output.ensures.served.view)
 
 pub returns-clause-crewed : goal.returns-clause-crewed
-returns-clause-crewed g c = λ d stands.
+returns-clause-crewed g c = λ ample stood d stands.
     let zip = rw c.as_mut_slice.ensures.value at c.perform-output.ensures.ran in
     let ran = retired _ _ (carries _) _ _ _ zip c.hire.ensures.works in
     let served = c.perform-output.ensures.served in
@@ -43,11 +40,11 @@ returns-clause-crewed g c = λ d stands.
     let size : length c.as_mut_slice.result.now ≡ length c.hire.new.works.items = ap length c.as_mut_slice.ensures.value in
     let knows = after_release _ _ (length c.as_mut_slice.result.now) served.popped _ works same served.view c.release-faults.ensures.kept in
     let learned = subst (λ (v : View). Learned v c.learn_as.ensures.rule.0) knows c.learn_as.ensures.rule.1 in
-    crewed _ _ _ d _ _ _ _ _ _ _ _ works served.popped c.learn_as.ensures.rule.0 (length c.as_mut_slice.result.now) ran
+    crewed ample _ _ _ d _ _ _ _ _ _ _ _ works served.popped c.learn_as.ensures.rule.0 (length c.as_mut_slice.result.now) ran
     (AllZip-long _ _ _ zip ∙ sym size) (size ∙ c.hire.ensures.count) learned served.ended
     (c.release-faults.ensures.same ∙ c.hire.ensures.same)
     (subst (λ ws. EachAt (λ k work. slice_get c.release-faults.new.operators k ≡ Some (Some work.source)) ws) same
     c.release-faults.ensures.back)
     (subst (λ ws. EachAt (λ k work. slice_get c.release-faults.result k ≡ Some work.fault) ws) same c.release-faults.ensures.faults)
     (λ place fault at. let t = c.release-faults.ensures.others place fault at in omega (arith, t, c.hire.ensures.same))
-    (served.answered d stands)
+    (served.answered ample (λ is. stood_since _ _ _ c.room.ensures.cause.later (stood is)) d stands)
