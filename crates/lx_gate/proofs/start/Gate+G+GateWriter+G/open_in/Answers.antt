@@ -1,7 +1,7 @@
 use Rattle.lx_gate.proofs.Imports.{subst, Valid}
 use Rattle.lx_gate.proofs.DarkDesk.{dark}
 use Rattle.lx_gate.proofs.FirstVersion.{first_is}
-use Rattle.lx_gate.proofs.start.Gate+G+GateWriter+G.open.Goals as goal
+use Rattle.lx_gate.proofs.start.Gate+G+GateWriter+G.open_in.Goals as goal
 
 pub new-requires-clause-rule : goal.new-requires-clause-rule
 new-requires-clause-rule g c = rw (c.first_version.ensures, c.again.ensures, c.named-history.ensures)
