@@ -12,9 +12,9 @@ perform-lanes-requires-clause-in_step g c = λ κs bounds. in_step_at _ _ _ _ c.
 pub returns-clause-played : goal.returns-clause-played
 returns-clause-played g c =
     let run = held_in c.perform-lanes.new.gate c.in-Some.gate
-    (λ held. HasRun g.S.Source g.O.Sink g.G.Origin.show c.in_ok-gate.gate []
-    c.args.console.now c.args.lines.now c.args.output.now held c.perform-lanes.new.unsent c.perform-lanes.new.console
-    c.perform-lanes.new.lines c.perform-lanes.new.output c.perform-lanes.result.1)
+    (λ held. HasRun g.S.Source g.O.Sink g.G.Origin.show (g.H.Heap.refusals c.open_in.new.heap) c.open_in.new.writers c.in_ok-gate.gate []
+    c.args.console.now c.args.lines.now c.args.output.now (g.H.Heap.refusals c.perform-lanes.new.heap) c.perform-lanes.new.writers held
+    c.perform-lanes.new.unsent c.perform-lanes.new.console c.perform-lanes.new.lines c.perform-lanes.new.output c.perform-lanes.result.1)
     c.in-Some.is c.perform-lanes.ensures.engine in
     record {
       published = c.in-Some.gate.published;
