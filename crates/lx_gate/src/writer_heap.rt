@@ -48,7 +48,8 @@ impl WriterHeap {
         self.refusals = self.refusals.saturating_add(1);
     }
 
-    /// A writer whose two copies are these versions, with places for so many readers. An error comes where memory was refused.
+    /// A writer whose two copies are these versions, which are the same, with places for so many readers. An error comes where memory
+    /// was refused.
     pub(crate) fn writer<G: Origin>(
         &mut self,
         first: Version<G>,
@@ -56,7 +57,7 @@ impl WriterHeap {
         readers: usize,
     ) -> Result<GateWriter<G>, AllocError>
         requires readers { (0 < readers) × (readers < 2 ^ 32) }
-        requires alike { (first.slots, first.list, first.count, first.moment) ≡ (second.slots, second.list, second.count, second.moment) }
+        requires alike { second ≡ first }
         requires version { IsVersion G.show first.list first.slots first.count first.moment }
         ensures writer { IfOk result (λ w. (w.desk.shown.value ≡ first) × (drop w.behind w.log.items ≡ [])) }
         ensures cause { HasCause self.old self.new result }
@@ -68,7 +69,7 @@ impl WriterHeap {
         made
     }
 
-    /// Gives the writer a commit, which waits to be published. An error comes where memory was refused, and then none waits more than did.
+    /// Gives the writer a commit, which waits to be published. An error comes where memory was refused, and then it doesn't wait.
     pub(crate) fn append<G: Origin>(
         &mut self,
         writer: GateWriter<G>,
