@@ -1,4 +1,4 @@
-use Rattle.lx_workers.proofs.Imports.{arith, HasRun, rules, refl, sym}
+use Rattle.lx_workers.proofs.Imports.{arith}
 use Rattle.lx_workers.proofs.Runs.{outcome_on, sends_since}
 use Rattle.lx_workers.proofs.script.answer_script.Goals as goal
 
