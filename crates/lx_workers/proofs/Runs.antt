@@ -81,14 +81,14 @@ pub played_of : {S K : Type 0} (told_in : ToldBySource S) (told_out : ToldBySink
     (ample : Bool) (first refusals writers : ℕ) (gate : Published) (unsent : List Command) (console : Kept) (lines : Lines S) (output : K)
     (refusals' writers' : ℕ) (gate' : Published) (unsent' : List Command) (console' : Kept) (lines' : Lines S) (output' : K)
     (result : Result Tally SessionFault)
-    → first ≤ refusals → (ample ≡ true → HasStood first refusals')
-    → gate ≡ record { published = []; entered = [] } → unsent ≡ [] → StandsFor (opened show) console
+    → (ample ≡ true → HasStood first refusals') → gate ≡ record { published = []; entered = [] } → unsent ≡ [] → StandsFor (opened show) console
     → HasRun told_in told_out show refusals writers gate unsent console lines output refusals' writers' gate' unsent' console' lines' output' result
+    → first ≤ refusals
     → IfSome (unread told_in lines) (λ bytes. ScriptAnswered (engine_answering ample (gate'.published ++ unsent'))
     (HasDone (λ commands. commands ≡ gate'.published ++ unsent') (opened show) console') (begun (opened show))
     (bytes_taken lines) bytes (unread told_in lines') (source_left told_in lines') (told_out.holds output) (told_out.holds output') result)
 played_of told_in told_out show ample first refusals writers gate unsent console lines output refusals' writers' gate' unsent' console' lines' output'
-    result later stood is empty stands h =
+    result stood is empty stands h later =
     let none : gate.published ++ unsent ≡ [] = ap (λ l. gate.published ++ l) empty
     ∙ (append-nil gate.published ∙ ap (λ (g : Published). g.published) is) in
     outcomes_as ample _ _ refl (HasAccepted gate unsent gate' unsent') (λ commands. commands ≡ gate'.published ++ unsent')

@@ -11,7 +11,8 @@ perform-lanes-requires-clause-in_step g c = λ κs bounds. in_step_at _ _ _ _ c.
 
 pub returns-clause-played : goal.returns-clause-played
 returns-clause-played g c = λ ample stood.
-    let later = (let room = c.in_ok-lanes.ensures.cause.later in let opened = c.in_ok-gate.ensures.later in omega (arith, room, opened)) in
+    let room = c.in_ok-lanes.ensures.cause.later in
+    let opened = c.in_ok-gate.ensures.later in
     let run = held_in c.perform-lanes.new.gate c.in-Some.gate _ c.in-Some.is c.perform-lanes.ensures.engine in
     record {
       published = c.in-Some.gate.published;
@@ -21,7 +22,7 @@ returns-clause-played g c = λ ample stood.
       session_is = played_of g.S.Source g.O.Sink g.G.Origin.show ample _ _ _ c.in_ok-gate.gate
           [] c.args.console.now c.args.lines.now c.args.output.now _ _ c.in-Some.gate c.perform-lanes.new.unsent
           c.perform-lanes.new.console c.perform-lanes.new.lines c.perform-lanes.new.output c.perform-lanes.result.1
-          later stood c.in_ok-gate.ensures.gate refl c.requires.opened run;
+          stood c.in_ok-gate.ensures.gate refl c.requires.opened run (omega (arith, room, opened));
       outlets_are = record {
         same_places = c.give_back-faults.ensures.same ∙ c.fill_lanes-lanes.ensures.same;
         each = λ place start is.
