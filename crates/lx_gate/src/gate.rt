@@ -1,13 +1,14 @@
 //! The gate: it publishes versions, and ends by `close`.
-ghost use Rattle.std.specs.Prelude.{◌≡◌, ◌+◌, ◌-◌, ◌<◌, ◌≤◌, ◌^◌, ◌++◌, List, [], length, IsSomeAnd, IfOk, OnOk, OnErr, drop};
+ghost use Rattle.std.specs.Prelude.{◌≡◌, ◌+◌, ◌-◌, ◌<◌, ◌≤◌, ◌^◌, ◌++◌, List, [], length, IsSomeAnd, OnOk, OnErr, drop};
 ghost use Rattle.lx_base.specs.declared.TheConstants.{SLOTS};
+ghost use Rattle.lx_io.specs.Causes.{HasCause};
 ghost use Rattle.lx_spec.specs.declared.Command.{Command};
 ghost use Rattle.lx_spec.specs.Show.{Show};
 ghost use Rattle.lx_gate.specs.Frames.{AreFramesOf, moment_after, IsVersion};
 ghost use Rattle.lx_gate.specs.Gates.{IsAtRest, IsEntered, StillRests, HasSent, HasSentNone};
 ghost use Rattle.lx_gate.specs.Notes.{IsNoteOf, commands_of_note};
 
-use crate::{Commit, GateRule, History, Note, Origin, Prefix, Shows, Unsent, Version};
+use crate::{Commit, GateRule, History, Note, Origin, Prefix, Shows, Unsent, Version, WriterHeap};
 use left_right::writer::Writer;
 use lx_base::SLOTS;
 use std::alloc::AllocError;
@@ -48,11 +49,12 @@ impl<G: Origin, W: Window> Model for Gate<G, W> {
 }
 
 impl<G: Origin> Gate<G, GateWriter<G>> {
-    /// Publishes all unsent commands at one step. An error means out of memory; then taps see what they saw, and the commands
-    /// go out with a later publish. It may wait for taps.
+    /// Publishes all unsent commands at one step. An error comes where the writer's memory was refused; then taps see what they saw,
+    /// and the commands go out with a later publish. It may wait for taps.
     pub fn publish<R: Wait>(
         &mut self,
         rt: &R,
+        writers: &mut WriterHeap,
         unsent: &mut Unsent,
         frames: &[u8],
         moment: u32,
@@ -65,33 +67,38 @@ impl<G: Origin> Gate<G, GateWriter<G>> {
         ensures entered { IsEntered self.new unsent.new }
         ensures ok { OnOk result (HasSent self.old unsent.old self.new unsent.new) }
         ensures err { OnErr result (HasSentNone self.old unsent.old self.new unsent.new) }
+        ensures cause { HasCause writers.old writers.new result }
     {
-        let entered = self.enter(unsent)?;
+        let entered = self.enter(rt, unsent);
         self.entered = entered.again();
         let commit = Commit {
             slots: slots_of(frames),
             list: entered.again(),
             moment,
         };
-        send(rt, &mut self.writer, commit)?;
+        send(rt, writers, &mut self.writer, commit)?;
         self.published = entered;
         *unsent = Unsent::new();
         Ok(())
     }
 
     /// The history with all unsent commands. It has some of them already where a publish failed.
-    fn enter(&self, unsent: &Unsent) -> Result<Prefix<G>, AllocError>
+    ///
+    /// Nobody else holds the word of the history, so the first try adds them. A rule of the logbook can't say who holds a word, so the
+    /// loop waits where another try would be due.
+    fn enter<R: Wait>(&self, rt: &R, unsent: &Unsent) -> Prefix<G>
         requires entered { IsEntered self.now unsent.now }
         requires room { length self.now.published + length unsent.now < 2 ^ 64 - 1 }
-        ensures { IfOk result (λ list. list ≡ self.now.published ++ unsent.now) }
+        ensures { result ≡ self.now.published ++ unsent.now }
     {
-        let mut entered = self.entered.again();
-        let known = entered.len() - self.published.len();
-        if entered.extend(&self.history, unsent, known) {
-            Ok(entered)
-        } else {
-            Err(AllocError)
+        for _ in rt.forever() {
+            let mut entered = self.entered.again();
+            let known = entered.len() - self.published.len();
+            if entered.extend(&self.history, unsent, known) {
+                return entered;
+            }
         }
+        unreachable!()
     }
 
     /// What is published now. It takes no memory and waits for nobody.
@@ -132,9 +139,10 @@ impl<G: Origin> Gate<G, GateWriter<G>> {
     }
 }
 
-/// Publishes a commit at one step. An error changes nothing.
+/// Publishes a commit at one step. An error comes where the writer's memory was refused, and changes nothing.
 fn send<G: Origin, R: Wait>(
     rt: &R,
+    writers: &mut WriterHeap,
     writer: &mut Option<GateWriter<G>>,
     commit: Commit<G>,
 ) -> Result<(), AllocError>
@@ -143,11 +151,13 @@ fn send<G: Origin, R: Wait>(
     requires moment { commit.moment ≡ moment_after G.show commit.list }
     ensures ok { OnOk result (IsSomeAnd writer.new (λ w. ⟦<GateWriter<G> as Window>⟧.rests w G.show commit.list)) }
     ensures err { OnErr result (StillRests ⟦<GateWriter<G> as Window>⟧.rests G.show writer.old writer.new) }
+    ensures cause { HasCause writers.old writers.new result }
 {
-    let Some(mut open) = writer.take() else {
+    let Some(open) = writer.take() else {
         unreachable!()
     };
-    let (open, answer) = match open.append(commit) {
+    let (open, appended) = writers.append(open, commit);
+    let (open, answer) = match appended {
         Err(_) => (open, Err(AllocError)),
         Ok(()) => (open.publish_as::<Shows<G>, R>(rt).0, Ok(())),
     };

@@ -14,6 +14,7 @@ mod start;
 mod tap;
 mod unsent;
 mod version;
+mod writer_heap;
 
 pub use gate::{Gate, GateWriter, Window};
 pub use history::{EmptyHistory, History, Prefix};
@@ -25,3 +26,4 @@ pub use stamp::Stamp;
 pub use tap::Tap;
 pub use unsent::Unsent;
 pub use version::{Commit, Version};
+pub use writer_heap::WriterHeap;

@@ -1,14 +1,17 @@
 //! The start of a gate.
-ghost use Rattle.std.specs.Prelude.{◌≡◌, ◌+◌, ◌≤◌, [], replicate, IfOk, vec_len, vec_capacity};
+ghost use Rattle.std.specs.Prelude.{◌≡◌, ◌+◌, ◌≤◌, ◌⊎◌, [], replicate, IfOk, OnErr, vec_len, vec_capacity};
 ghost use Rattle.lx_base.specs.declared.TheConstants.{SLOTS, UNIVERSES};
+ghost use Rattle.lx_io.specs.Causes.{Rose};
 ghost use Rattle.lx_spec.specs.Show.{Valid};
 ghost use Rattle.lx_gate.specs.Gates.{Published};
 ghost use Rattle.lx_base.specs.Places.{EachAt};
 ghost use Rattle.lx_gate.specs.Readings.{IsNewTap};
 
-use crate::{EmptyHistory, Gate, GatePort, GateWriter, LrPort, Origin, Prefix, Tap, Version};
-use left_right::writer::Writer;
+use crate::{
+    EmptyHistory, Gate, GatePort, GateWriter, LrPort, Origin, Prefix, Tap, Version, WriterHeap,
+};
 use lx_base::SLOTS;
+use lx_io::{Heap, SystemHeap};
 use lx_show::Show;
 use std::alloc::{AllocError, Global};
 
@@ -29,11 +32,34 @@ impl<G: Origin> Gate<G, GateWriter<G>> {
         ensures universes { IfOk result (λ r. vec_len r.1 ≡ universes) }
         ensures taps { IfOk result (λ r. EachAt IsNewTap r.1.items) }
     {
+        let mut heap = SystemHeap::new(alloc);
+        let mut writers = WriterHeap::new(alloc);
+        Gate::open_in(&mut heap, &mut writers, show, universes, history)
+    }
+
+    /// As `open`, by a heap for the taps and one for the gate's writer. An error comes only where one of the two refused.
+    pub fn open_in<H: Heap>(
+        heap: &mut H,
+        writers: &mut WriterHeap,
+        show: &Show,
+        universes: u8,
+        history: EmptyHistory,
+    ) -> Result<(Gate<G, GateWriter<G>>, Vec<Tap<GatePort<G>>>), AllocError>
+        requires low { 1 ≤ universes }
+        requires high { universes ≤ UNIVERSES }
+        requires show { show.now ≡ G.show }
+        requires book { history.seen.book ≡ G.book }
+        ensures gate { IfOk result (λ r. r.0 ≡ record { published = []; entered = [] }) }
+        ensures universes { IfOk result (λ r. vec_len r.1 ≡ universes) }
+        ensures taps { IfOk result (λ r. EachAt IsNewTap r.1.items) }
+        ensures cause { OnErr result (Rose (H.refusals heap.old) (H.refusals heap.new) ⊎ Rose writers.old writers.new) }
+        ensures later { H.refusals heap.old ≤ H.refusals heap.new }
+        ensures writers_later { writers.old ≤ writers.new }
+    {
         let _channels = show.channels();
         let (history, none) = history.named::<G>();
-        let mut taps = Vec::with_capacity(alloc, universes as usize)?;
-        let writer = Writer::new(
-            alloc,
+        let mut taps = heap.room(universes as usize)?;
+        let writer = writers.writer(
             first_version(none.again()),
             first_version(none.again()),
             universes as usize,

@@ -1,7 +1,10 @@
 //! Where the memory of a gate's writer comes from.
-ghost use Rattle.std.specs.Prelude.{◌≡◌, ◌≤◌, ℕ};
+ghost use Rattle.std.specs.Prelude.{◌≡◌, ◌≤◌, ◌<◌, ◌^◌, [], ◌∷◌, ◌++◌, IfOk, MatchResult, drop};
 ghost use Rattle.lx_io.specs.Causes.{HasCause, one_more};
+ghost use Rattle.lx_gate.specs.Frames.{IsVersion};
 
+use crate::{Commit, GateWriter, Origin, Version};
+use left_right::writer::Writer;
 use std::alloc::{AllocError, Global};
 use std::marker::Model;
 
@@ -35,5 +38,56 @@ impl WriterHeap {
         ensures { result ≡ self.now }
     {
         self.refusals
+    }
+
+    /// Memory was refused.
+    fn refuse(&mut self)
+        ensures counted { self.new ≡ one_more self.old }
+        ensures later { self.old ≤ self.new }
+    {
+        self.refusals = self.refusals.saturating_add(1);
+    }
+
+    /// A writer whose two copies are these versions, which are the same, with places for so many readers. An error comes where memory
+    /// was refused.
+    pub(crate) fn writer<G: Origin>(
+        &mut self,
+        first: Version<G>,
+        second: Version<G>,
+        readers: usize,
+    ) -> Result<GateWriter<G>, AllocError>
+        requires readers { (0 < readers) × (readers < 2 ^ 32) }
+        requires alike { second ≡ first }
+        requires version { IsVersion G.show first.list first.slots first.count first.moment }
+        ensures writer { IfOk result (λ w. (w.desk.shown.value ≡ first) × (drop w.behind w.log.items ≡ [])) }
+        ensures cause { HasCause self.old self.new result }
+    {
+        let made = Writer::new(self.alloc, first, second, readers);
+        if made.is_err() {
+            self.refuse();
+        }
+        made
+    }
+
+    /// Gives the writer a commit, which waits to be published. An error comes where memory was refused, and then it doesn't wait.
+    pub(crate) fn append<G: Origin>(
+        &mut self,
+        writer: GateWriter<G>,
+        commit: Commit<G>,
+    ) -> (GateWriter<G>, Result<(), AllocError>)
+        ensures desk { result.0.desk ≡ writer.desk }
+        ensures pending { MatchResult result.1
+            (λ _. drop result.0.behind result.0.log.items ≡ drop writer.behind writer.log.items ++ commit ∷ [])
+            (λ _. drop result.0.behind result.0.log.items ≡ drop writer.behind writer.log.items) }
+        ensures cause { HasCause self.old self.new result.1 }
+    {
+        let mut open = writer;
+        match open.append(commit) {
+            Ok(()) => (open, Ok(())),
+            Err(_commit) => {
+                self.refuse();
+                (open, Err(AllocError))
+            }
+        }
     }
 }

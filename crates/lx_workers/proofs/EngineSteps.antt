@@ -1,6 +1,7 @@
 -- The engine's steps: a command is admitted, accepted and published.
-use Rattle.lx_workers.proofs.Imports.{◌≡◌, ◌+◌, ◌-◌, ◌^◌, ◌<◌, true, List, [], ◌∷◌, ◌++◌, length, length-append, sym, ap}
+use Rattle.lx_workers.proofs.Imports.{◌≡◌, ◌+◌, ◌-◌, ◌^◌, ◌<◌, ℕ, true, List, [], ◌∷◌, ◌++◌, length, length-append, sym, ap}
 use Rattle.lx_workers.proofs.Imports.{◌∙◌, subst, arith, Command, Show, replay, Kept, Published, IsInStep, accepted_of, leaves_room}
+use Rattle.lx_workers.proofs.Imports.{Result, Ok, Err, OnOk, HasCause, HasStood, SendsAll}
 use Rattle.std.proofs.lemmas.Bool.Decides.{nat_tests}
 use Rattle.lx_session.specs.Attempts.{AcceptedStep}
 use Rattle.lx_gate.proofs.DeskSteps.{in_step_push}
@@ -30,3 +31,12 @@ left_room before after command is room =
     let few : length after < 2 ^ 62 = grind (arith, nat_tests) in
     let fewer : length before < 2 ^ 62 = omega (arith, few, n) in
     grind (arith, nat_tests)
+
+-- a publish sends all, or the writer's heap refused some
+pub sends_of : {A E : Type 0} (answer : Result A E) (refusals refusals' : ℕ) (P : Type 0) (unsent' : List Command)
+    → OnOk answer (P × (unsent' ≡ [])) → HasCause refusals refusals' answer → SendsAll refusals refusals' unsent'
+sends_of (Ok a) refusals refusals' P unsent' ok h = record { later = h.later; sent = λ stood. ok.1 }
+sends_of (Err e) refusals refusals' P unsent' ok h = record {
+  later = h.later;
+  sent = λ stood. absurd (let rose = h.failed in omega (arith, rose, stood));
+}

@@ -1,7 +1,7 @@
 -- What the proofs of this crate import from its specs and from other crates. It declares nothing.
 pub use Rattle.std.proofs.Common.{[], ℕ, ⊎_elim, ◌++◌, ◌+◌, ◌-◌, ◌<◌, ◌^◌, ◌∙◌, ◌∷◌, ◌≡◌, ◌≢◌, ◌≤◌}
-pub use Rattle.std.proofs.Common.{◌⊎◌, ap, append-nil, append_assoc, arith, Bool, cond, Err, false, IfSome, inl, inr, is_some, IsSome, IsSomeAnd, length}
-pub use Rattle.std.proofs.Common.{length-append, length-set, List, ltb, min, None, Ok, Option, refl, replicate, Result, reverse, rules, set, slice_get, Some}
+pub use Rattle.std.proofs.Common.{◌⊎◌, ◌&&◌, ap, append-nil, append_assoc, arith, Bool, cond, Err, false, IfSome, inl, inr, is_some, IsSome, IsSomeAnd, length}
+pub use Rattle.std.proofs.Common.{length-append, length-set, List, ltb, min, None, Ok, OnErr, OnOk, Option, refl, replicate, Result, reverse, rules, set, slice_get, Some}
 pub use Rattle.std.proofs.Common.{subst, suc, sym, take, true, vec_capacity, vec_len, zero}
 pub use Rattle.lx_base.specs.Places.{EachAt}
 pub use Rattle.lx_gate.proofs.Prefixes.{prefix_get, prefix_length, prefix_self, prefix_trans, prefix_whole}
@@ -11,16 +11,17 @@ pub use Rattle.lx_gate.specs.Frames.{IsFrame}
 pub use Rattle.lx_gate.specs.Gates.{Published}
 pub use Rattle.lx_gate.specs.Readings.{HasLearnt, HasMissed, HasReadOn, IsNewTap, newest, Tapped, Told}
 pub use Rattle.lx_gate.specs.declared.stamp.Stamp.{Stamp}
-pub use Rattle.lx_io.specs.Causes.{one_more, Rose}
+pub use Rattle.lx_io.specs.Causes.{HasCause, one_more, Rose}
 pub use Rattle.lx_io.specs.Puts.{AppendsFront, HasSinkCause, Puts}
 pub use Rattle.lx_io.specs.declared.sink.SinkFault.{SinkFault}
 pub use Rattle.lx_io.specs.Told.{ToldBySink}
+pub use Rattle.lx_session.specs.Spared.{HasStood}
 pub use Rattle.lx_spec.specs.Desk.{Desk, opened, replay}
 pub use Rattle.lx_spec.specs.Kept.{Kept}
 pub use Rattle.lx_spec.specs.Show.{Show}
 pub use Rattle.lx_spec.specs.Versions.{Falling, Older, outlet_text, version_text, versions_text}
 pub use Rattle.lx_spec.specs.declared.Command.{Command}
-pub use Rattle.lx_workers.specs.Engines.{accepted_of, HasAccepted, HasRun, leaves_room}
+pub use Rattle.lx_workers.specs.Engines.{accepted_of, engine_answering, HasAccepted, HasRun, leaves_room, SendsAll}
 pub use Rattle.lx_workers.specs.Lines.{HasFault, HasWritten, HasWrittenPart, newest_count, stamped_line}
 pub use Rattle.lx_workers.specs.Places.{IsFull, IsGiven, IsTaken, OutletIsBack}
 pub use Rattle.lx_workers.specs.Works.{Delivered, HasAll, HasLooked, HasOutletPart, HasServed, HasStepped, HasTakenTimes, RoseOrSame}

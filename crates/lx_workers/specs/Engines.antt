@@ -39,10 +39,10 @@ leaves_room commands = ltb (length commands) (2 ^ 62)
 abbrev pub engine_answering : (ample : Bool) → List Command → Answering (List ℕ)
 engine_answering ample commands = spared (ample && leaves_room commands) (desk_answering (leaves_room commands))
 
--- By the count of a writer's heap: where it refused nothing and nothing waited to be published, nothing waits.
-pub record SendsAll (refusals refusals' : ℕ) (unsent unsent' : List Command) : Type 0 where
+-- By the count of a writer's heap: where it refused nothing, nothing waits to be published.
+pub record SendsAll (refusals refusals' : ℕ) (unsent' : List Command) : Type 0 where
   pub later : refusals ≤ refusals'
-  pub sent : HasStood refusals refusals' → unsent ≡ [] → unsent' ≡ []
+  pub sent : HasStood refusals refusals' → unsent' ≡ []
 
 pub accepted_nothing : (gate : Published) (unsent : List Command) → HasAccepted gate unsent gate unsent []
 accepted_nothing gate unsent = sym (append-nil (accepted_of gate unsent))
@@ -64,10 +64,11 @@ pub record HasRun {S K : Type 0} (told_in : ToldBySource S) (told_out : ToldBySi
   pub in_step : IsInStep show gate' unsent' console'
   pub same_source : SameSource lines lines'
   pub later : refusals ≤ refusals'
-  pub sends : SendsAll writers writers' unsent unsent'
+  pub sends : SendsAll writers writers' unsent'
   pub outcome : (ample : Bool) → (ample ≡ true → HasStood refusals refusals') → (d : Desk) → StandsFor d console
-      → IfSome (unread told_in lines) (λ bytes. ScriptAnswered (engine_answering ample (accepted_of gate' unsent')) (HasDone (HasAccepted gate unsent gate' unsent') d console')
-      (begun d) (bytes_taken lines) bytes (unread told_in lines') (source_left told_in lines') (told_out.holds output) (told_out.holds output') result)
+      → IfSome (unread told_in lines) (λ bytes. ScriptAnswered (engine_answering ample (accepted_of gate' unsent'))
+      (HasDone (HasAccepted gate unsent gate' unsent') d console') (begun d) (bytes_taken lines) bytes (unread told_in lines')
+      (source_left told_in lines') (told_out.holds output) (told_out.holds output') result)
   pub limit : IfSome (unread told_in lines) (λ bytes. KeepsLimit (bytes_taken lines) bytes result)
   pub cause : HasSessionCause told_in told_out lines lines' output output' result
   pub handed_on : OnOk result (told_out.back output' ≡ [])

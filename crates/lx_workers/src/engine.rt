@@ -1,35 +1,49 @@
 //! The engine's listener: each command that a session accepts is published, in order.
-ghost use Rattle.std.specs.Prelude.{◌≡◌, ◌++◌};
+ghost use Rattle.std.specs.Prelude.{◌≡◌, ◌++◌, ℕ};
 ghost use Rattle.lx_gate.specs.Desks.{IsInStep};
-ghost use Rattle.lx_workers.specs.Engines.{accepted_of, HasAccepted, leaves_room};
+ghost use Rattle.lx_workers.specs.Engines.{accepted_of, HasAccepted, leaves_room, SendsAll};
 
 use crate::Stop;
 use lx_console::Console;
-use lx_gate::{Gate, GateWriter, Origin, Unsent, Window};
+use lx_gate::{Gate, GateWriter, Origin, Unsent, Window, WriterHeap};
 use lx_io::Pace;
 use lx_session::Listener;
 use lx_spec::Command;
+use std::marker::{Brand, PhantomData};
 use std::sync::Wait;
 
 /// Where this many commands were accepted, no more are admitted.
 const MOST: u64 = 1 << 62;
 
+/// What was so when a run began. It exists for proofs alone, and the call that begins the run picks it.
+pub trait Before {
+    /// How often the writer's heap had refused.
+    ghost refusals: { ℕ };
+}
+
+impl Before for Brand {
+    ghost refusals = { 0 };
+}
+
 /// Listens to the session of a live run. It keeps the pace, admits each command that can still be counted, publishes what
 /// was accepted with the console's frames, and tells the workers. Commands that a publish leaves for lack of memory wait for
-/// a later one.
-pub struct Publisher<'r, 't, 'p, R: Wait, G: Origin, W: Window, C: Pace> {
+/// a later one. The writer's heap is its own while it listens.
+pub struct Publisher<'r, 't, 'p, R: Wait, G: Origin, W: Window, C: Pace, B: Before> {
     pub rt: &'r R,
     pub gate: Gate<G, W>,
     pub unsent: Unsent,
+    pub writers: WriterHeap,
     pub stop: &'t Stop,
     pub pace: &'p C,
+    pub before: PhantomData<B>,
 }
 
-impl<R: Wait, G: Origin, C: Pace> Listener for Publisher<'_, '_, '_, R, G, GateWriter<G>, C> {
-    ghost use Rattle.std.specs.Prelude.{◌≡◌, true};
+impl<R: Wait, G: Origin, C: Pace, B: Before> Listener
+    for Publisher<'_, '_, '_, R, G, GateWriter<G>, C, B> {
+    ghost use Rattle.std.specs.Prelude.{◌≡◌, ◌≤◌, true};
     ghost use Rattle.lx_workers.specs.Engines.{accepted_nothing, accepted_both};
 
-    ghost keeps = { λ x console. IsInStep G.show x.gate x.unsent console };
+    ghost keeps = { λ x console. IsInStep G.show x.gate x.unsent console × (B.refusals ≤ x.writers) };
 
     ghost heard = { λ x y commands. HasAccepted x.gate x.unsent y.gate y.unsent commands };
 
@@ -51,7 +65,13 @@ impl<R: Wait, G: Origin, C: Pace> Listener for Publisher<'_, '_, '_, R, G, GateW
 
     fn hear(&mut self, command: &Command, console: &Console) {
         self.unsent.push(command);
-        publish(self.rt, &mut self.gate, &mut self.unsent, console);
+        publish(
+            self.rt,
+            &mut self.writers,
+            &mut self.gate,
+            &mut self.unsent,
+            console,
+        );
         self.stop.tell_news();
     }
 
@@ -75,9 +95,11 @@ fn has_room<G: Origin>(gate: &Gate<G, GateWriter<G>>, unsent: &Unsent) -> bool
     gate.count().saturating_add(unsent.len()) < MOST
 }
 
-/// Publishes what is unsent. Where memory runs out it stays unsent, and goes out with a later publish.
+/// Publishes what is unsent. Where the writer's heap refuses it stays unsent, and goes out with a later publish.
+#[tactic(auto, using(crate::proofs::EngineSteps::sends_of))]
 pub(crate) fn publish<G: Origin, R: Wait>(
     rt: &R,
+    writers: &mut WriterHeap,
     gate: &mut Gate<G, GateWriter<G>>,
     unsent: &mut Unsent,
     console: &Console,
@@ -85,6 +107,7 @@ pub(crate) fn publish<G: Origin, R: Wait>(
     requires { IsInStep G.show gate.old unsent.old console.now }
     ensures in_step { IsInStep G.show gate.new unsent.new console.now }
     ensures same { gate.new.published ++ unsent.new ≡ gate.old.published ++ unsent.old }
+    ensures sends { SendsAll writers.old writers.new unsent.new }
 {
-    let _sent = gate.publish_desk(rt, unsent, console);
+    let _sent = gate.publish_desk(rt, writers, unsent, console);
 }

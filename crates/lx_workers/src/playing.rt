@@ -1,5 +1,5 @@
 //! A live run: the engine, and a worker for each outlet beside it.
-ghost use Rattle.std.specs.Prelude.{◌≡◌, ◌+◌, ◌-◌, ◌<◌, ◌≤◌, [], length, IsSome, IsSomeAnd, IfOk, IfSome, OnOk, OnErr, vec_len, vec_capacity, ℕ};
+ghost use Rattle.std.specs.Prelude.{◌≡◌, ◌+◌, ◌-◌, ◌<◌, ◌≤◌, ◌⊎◌, [], length, IsSome, IsSomeAnd, IfOk, IfSome, OnOk, OnErr, vec_len, vec_capacity, ℕ, Bool, true, false};
 ghost use Rattle.std.specs.Prelude.{Some, None, slice_get, slice_set, List};
 ghost use Rattle.std.specs.List.{AllZip};
 ghost use Rattle.lx_base.specs.declared.TheConstants.{INPUT_BYTES};
@@ -8,10 +8,12 @@ ghost use Rattle.lx_lex.specs.Unread.{CanAdvance, SameSource, bytes_taken, unrea
 ghost use Rattle.lx_spec.specs.Desk.{opened};
 ghost use Rattle.lx_console.specs.ConsoleMeaning.{StandsFor};
 ghost use Rattle.lx_session.specs.SessionOutcome.{HasSessionCause, KeepsLimit};
+ghost use Rattle.lx_session.specs.Spared.{HasStood};
 ghost use Rattle.lx_gate.specs.Gates.{Published};
 ghost use Rattle.lx_gate.specs.Desks.{IsInStep};
 ghost use Rattle.lx_base.specs.Places.{EachAt};
 ghost use Rattle.lx_gate.specs.Readings.{IsNewTap};
+ghost use Rattle.lx_io.specs.Causes.{Rose};
 ghost use Rattle.lx_io.specs.declared.sink.SinkFault.{SinkFault};
 ghost use Rattle.lx_workers.specs.Engines.{HasRunFrom};
 ghost use Rattle.lx_workers.specs.Works.{HasServed};
@@ -22,8 +24,8 @@ use crate::script::LiveEngine;
 use crate::{Lane, Served, Stop};
 use lx_base::UNIVERSES;
 use lx_console::Console;
-use lx_gate::{EmptyHistory, Gate, GatePort, GateWriter, Origin, Tap, Unsent};
-use lx_io::{Pace, Sink, SinkFault, Source};
+use lx_gate::{EmptyHistory, Gate, GatePort, GateWriter, Origin, Tap, Unsent, WriterHeap};
+use lx_io::{Heap, Pace, Sink, SinkFault, Source, SystemHeap};
 use lx_lex::Lines;
 use lx_session::{SessionFault, Tally};
 use lx_work::run_before;
@@ -79,15 +81,70 @@ pub fn play<
     ensures err { OnErr result ((console.new ≡ console.old)
         × ((lines.new ≡ lines.old) × ((output.new ≡ output.old) × (outlets.new ≡ outlets.old)))) }
     ensures same_source { SameSource lines.old lines.new }
-    ensures played { IfOk result (λ p. HasPlayedScript S.Source O.Sink K.Sink console.old.show lines.old lines.new output.old
+    ensures played { IfOk result (λ p. HasPlayedScript false S.Source O.Sink K.Sink console.old.show lines.old lines.new output.old
         output.new outlets.old outlets.new console.new p.session p.outlets p.unsent) }
     ensures limit { IfOk result (λ p. IfSome (unread S.Source lines.old) (λ bytes. KeepsLimit (bytes_taken lines.old) bytes p.session)) }
     ensures cause { IfOk result (λ p. HasSessionCause S.Source O.Sink lines.old lines.new output.old output.new p.session) }
     ensures handed_on { IfOk result (λ p. OnOk p.session (O.back output.new ≡ [])) }
 {
-    play_over::<Brand, R, S, O, K, C>(
+    let mut heap = SystemHeap::new(alloc);
+    let mut writers = WriterHeap::new(alloc);
+    play_in(
         rt,
-        alloc,
+        &mut heap,
+        &mut writers,
+        console,
+        lines,
+        output,
+        outlets,
+        pace,
+    )
+}
+
+/// As `play`, by a heap for the session and what the run keeps, and one for the gate's writer. `AllocError` comes only where one of the two
+/// refused. Where the heap refused nothing in this call, no command failed for want of memory as long as each was admitted; and where the
+/// writer's heap refused nothing, all accepted commands were published.
+pub fn play_in<
+    R: Threads + Wait + Sync,
+    H: Heap + Send,
+    S: Source + Send,
+    O: Sink + Send,
+    K: Sink + Send + Drop,
+    C: Pace + Sync,
+>(
+    rt: &R,
+    heap: &mut H,
+    writers: &mut WriterHeap,
+    console: &mut Console,
+    lines: &mut Lines<S>,
+    output: &mut O,
+    outlets: &mut [Option<K>],
+    pace: &C,
+) -> Result<LiveOutcome, AllocError>
+    requires opened { StandsFor (opened console.old.show) console.old }
+    requires going { CanAdvance lines.old }
+    requires within { bytes_taken lines.old ≤ INPUT_BYTES }
+    requires some { 1 ≤ length outlets.old }
+    requires most { length outlets.old ≤ OUTLETS }
+    requires full { IsFull outlets.old }
+    ensures err { OnErr result ((console.new ≡ console.old)
+        × ((lines.new ≡ lines.old) × ((output.new ≡ output.old) × (outlets.new ≡ outlets.old)))) }
+    ensures memory { OnErr result (Rose (H.refusals heap.old) (H.refusals heap.new) ⊎ Rose writers.old writers.new) }
+    ensures same_source { SameSource lines.old lines.new }
+    ensures played { (ample : Bool) → (ample ≡ true → HasStood (H.refusals heap.old) (H.refusals heap.new))
+        → IfOk result (λ p. HasPlayedScript ample S.Source O.Sink K.Sink console.old.show lines.old lines.new output.old
+        output.new outlets.old outlets.new console.new p.session p.outlets p.unsent) }
+    ensures sent { HasStood writers.old writers.new → IfOk result (λ p. p.unsent ≡ 0) }
+    ensures limit { IfOk result (λ p. IfSome (unread S.Source lines.old) (λ bytes. KeepsLimit (bytes_taken lines.old) bytes p.session)) }
+    ensures cause { IfOk result (λ p. HasSessionCause S.Source O.Sink lines.old lines.new output.old output.new p.session) }
+    ensures handed_on { IfOk result (λ p. OnOk p.session (O.back output.new ≡ [])) }
+    ensures later { H.refusals heap.old ≤ H.refusals heap.new }
+    ensures writers_later { writers.old ≤ writers.new }
+{
+    play_over::<Brand, R, H, S, O, K, C>(
+        rt,
+        heap,
+        writers,
         console,
         lines,
         output,
@@ -101,13 +158,15 @@ pub fn play<
 fn play_over<
     G: Origin + Send + Sync,
     R: Threads + Wait + Sync,
+    H: Heap + Send,
     S: Source + Send,
     O: Sink + Send,
     K: Sink + Send + Drop,
     C: Pace + Sync,
 >(
     rt: &R,
-    alloc: Global,
+    heap: &mut H,
+    writers: &mut WriterHeap,
     console: &mut Console,
     lines: &mut Lines<S>,
     output: &mut O,
@@ -125,17 +184,23 @@ fn play_over<
     requires full { IsFull outlets.old }
     ensures err { OnErr result ((console.new ≡ console.old)
         × ((lines.new ≡ lines.old) × ((output.new ≡ output.old) × (outlets.new ≡ outlets.old)))) }
+    ensures memory { OnErr result (Rose (H.refusals heap.old) (H.refusals heap.new) ⊎ Rose writers.old writers.new) }
     ensures same_source { SameSource lines.old lines.new }
-    ensures played { IfOk result (λ p. HasPlayedScript S.Source O.Sink K.Sink G.show lines.old lines.new output.old
+    ensures played { (ample : Bool) → (ample ≡ true → HasStood (H.refusals heap.old) (H.refusals heap.new))
+        → IfOk result (λ p. HasPlayedScript ample S.Source O.Sink K.Sink G.show lines.old lines.new output.old
         output.new outlets.old outlets.new console.new p.session p.outlets p.unsent) }
+    ensures sent { HasStood writers.old writers.new → IfOk result (λ p. p.unsent ≡ 0) }
     ensures limit { IfOk result (λ p. IfSome (unread S.Source lines.old) (λ bytes. KeepsLimit (bytes_taken lines.old) bytes p.session)) }
     ensures cause { IfOk result (λ p. HasSessionCause S.Source O.Sink lines.old lines.new output.old output.new p.session) }
     ensures handed_on { IfOk result (λ p. OnOk p.session (O.back output.new ≡ [])) }
+    ensures later { H.refusals heap.old ≤ H.refusals heap.new }
+    ensures writers_later { writers.old ≤ writers.new }
 {
     let stop = Stop::new(outlets.len() as u64);
-    let lanes = Vec::with_capacity(alloc, outlets.len())?;
-    let (gate, taps) = Gate::<G, GateWriter<G>>::open(
-        alloc,
+    let lanes = heap.room(outlets.len())?;
+    let (gate, taps) = Gate::<G, GateWriter<G>>::open_in(
+        heap,
+        writers,
         console.show(),
         outlets.len() as u8,
         history,
@@ -145,7 +210,8 @@ fn play_over<
     let mut unsent = Unsent::new();
     let (lanes, session) = perform(
         rt,
-        alloc,
+        heap,
+        writers,
         console,
         lines,
         output,
@@ -170,13 +236,15 @@ fn perform<
     'a,
     G: Origin + Send + Sync,
     R: Threads + Wait + Sync,
+    H: Heap + Send,
     S: Source + Send,
     O: Sink + Send,
     K: Sink + Send + Drop,
     C: Pace + Sync,
 >(
     rt: &R,
-    alloc: Global,
+    heap: &mut H,
+    writers: &mut WriterHeap,
     console: &mut Console,
     lines: &mut Lines<S>,
     output: &mut O,
@@ -192,14 +260,15 @@ fn perform<
     requires in_step { IsSomeAnd gate.old (λ held. IsInStep G.show held [] console.old) }
     requires going { CanAdvance lines.old }
     requires within { bytes_taken lines.old ≤ INPUT_BYTES }
-    ensures engine { HasRunFrom S.Source O.Sink G.show gate.old console.old lines.old output.old gate.new
-        unsent.new console.new lines.new output.new result.1 }
+    ensures engine { HasRunFrom S.Source O.Sink G.show (H.refusals heap.old) writers.old gate.old console.old lines.old output.old
+        (H.refusals heap.new) writers.new gate.new unsent.new console.new lines.new output.new result.1 }
     ensures count { vec_len result.0 ≡ vec_len lanes.entry }
     ensures lanes { AllZip (λ x y. HasServed K.Sink G.show x.tap y.tap x.sink y.sink y.served) lanes.entry.items
         result.0.items }
 {
     let mut engine = LiveEngine {
-        alloc,
+        heap: &mut *heap,
+        writers: &mut *writers,
         console: &mut *console,
         lines: &mut *lines,
         output: &mut *output,

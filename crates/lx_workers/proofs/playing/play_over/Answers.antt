@@ -1,4 +1,4 @@
-use Rattle.lx_workers.proofs.Imports.{rules, ◌≡◌, ◌-◌, ◌<◌, [], Some, length, vec_len, refl, sym, ◌∙◌, arith, slice_get_within, HasRun}
+use Rattle.lx_workers.proofs.Imports.{rules, ◌≡◌, ◌-◌, ◌<◌, [], Some, length, vec_len, refl, sym, ◌∙◌, arith, slice_get_within}
 use Rattle.lx_workers.proofs.PlacesKept.{full_at, zip_at, get_within, is_back}
 use Rattle.lx_workers.proofs.Runs.{in_step_at, played_of, held_in}
 use Rattle.lx_workers.proofs.playing.play_over.Goals as goal
@@ -10,21 +10,19 @@ pub perform-lanes-requires-clause-in_step : goal.perform-lanes-requires-clause-i
 perform-lanes-requires-clause-in_step g c = λ κs bounds. in_step_at _ _ _ _ c.in_ok-gate.ensures.gate refl c.requires.opened
 
 pub returns-clause-played : goal.returns-clause-played
-returns-clause-played g c =
-    let run = held_in c.perform-lanes.new.gate c.in-Some.gate
-    (λ held. HasRun g.S.Source g.O.Sink g.G.Origin.show c.in_ok-gate.gate []
-    c.args.console.now c.args.lines.now c.args.output.now held c.perform-lanes.new.unsent c.perform-lanes.new.console
-    c.perform-lanes.new.lines c.perform-lanes.new.output c.perform-lanes.result.1)
-    c.in-Some.is c.perform-lanes.ensures.engine in
+returns-clause-played g c = λ ample stood.
+    let room = c.in_ok-lanes.ensures.cause.later in
+    let opened = c.in_ok-gate.ensures.later in
+    let run = held_in c.perform-lanes.new.gate c.in-Some.gate _ c.in-Some.is c.perform-lanes.ensures.engine in
     record {
       published = c.in-Some.gate.published;
       held_back = c.perform-lanes.new.unsent;
       unsent_is = c.len.ensures;
       stands = run.in_step.stands;
-      session_is = played_of g.S.Source g.O.Sink g.G.Origin.show c.in_ok-gate.gate
-          [] c.args.console.now c.args.lines.now c.args.output.now c.in-Some.gate c.perform-lanes.new.unsent
+      session_is = played_of g.S.Source g.O.Sink g.G.Origin.show ample _ _ _ c.in_ok-gate.gate
+          [] c.args.console.now c.args.lines.now c.args.output.now _ _ c.in-Some.gate c.perform-lanes.new.unsent
           c.perform-lanes.new.console c.perform-lanes.new.lines c.perform-lanes.new.output c.perform-lanes.result.1
-          c.in_ok-gate.ensures.gate refl c.requires.opened run;
+          stood c.in_ok-gate.ensures.gate refl c.requires.opened run (omega (arith, room, opened));
       outlets_are = record {
         same_places = c.give_back-faults.ensures.same ∙ c.fill_lanes-lanes.ensures.same;
         each = λ place start is.

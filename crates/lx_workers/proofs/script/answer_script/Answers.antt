@@ -1,19 +1,27 @@
-use Rattle.lx_workers.proofs.Runs.{run_on}
+use Rattle.lx_workers.proofs.Imports.{arith}
+use Rattle.lx_workers.proofs.Runs.{outcome_on, sends_since}
 use Rattle.lx_workers.proofs.script.answer_script.Goals as goal
 
-pub session_with-session-requires-clause-keeps : goal.session_with-session-requires-clause-keeps
-session_with-session-requires-clause-keeps g c = c.requires.in_step
+pub session_with_in-session-requires-clause-keeps : goal.session_with_in-session-requires-clause-keeps
+session_with_in-session-requires-clause-keeps g c = (c.requires.in_step, let same = c.requires.before in omega (arith, same))
 
 pub publish-requires : goal.publish-requires
-publish-requires g c = c.session_with-session.ensures.keeps
+publish-requires g c = c.session_with_in-session.ensures.keeps.0
 
 pub returns : goal.returns
 returns g c =
-    let s = c.session_with-session in
+    let s = c.session_with_in-session in
     let e = s.ensures in
-    run_on g.S.Source g.K.Sink g.G.Origin.show c.args.publisher.now.gate
-    c.args.publisher.now.unsent c.args.console.now c.args.lines.now c.args.output.now s.new.listener.gate
-    s.new.listener.unsent s.new.console s.new.lines s.new.sink s.result c.publish.new.gate
-    c.publish.new.unsent
-    (record { in_step = e.keeps; same_source = e.same_source; outcome = e.outcome; limit = e.limit; cause = e.cause; handed_on = e.handed_on })
-    c.publish.ensures.in_step c.publish.ensures.same
+    let first = e.keeps.1 in
+    let same = c.requires.before in
+    record {
+      in_step = c.publish.ensures.in_step;
+      same_source = e.same_source;
+      later = e.later;
+      sends = sends_since _ s.new.listener.writers _ _ (omega (arith, first, same)) c.publish.ensures.sends;
+      outcome = outcome_on _ _ c.args.publisher.now.gate c.args.publisher.now.unsent s.new.listener.gate s.new.listener.unsent
+          c.publish.new.gate c.publish.new.unsent c.publish.ensures.same _ _ _ _ _ _ _ _ _ e.outcome;
+      limit = e.limit;
+      cause = e.cause;
+      handed_on = e.handed_on;
+    }

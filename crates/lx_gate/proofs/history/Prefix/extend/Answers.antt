@@ -1,4 +1,4 @@
-use Rattle.lx_gate.proofs.Imports.{◌≡◌, ◌+◌, ◌-◌, refl, sym, ◌∙◌, ap, subst, length, drop, List, arith, length-drop, Command, flat}
+use Rattle.lx_gate.proofs.Imports.{◌≡◌, ◌+◌, ◌-◌, sym, ◌∙◌, ap, subst, length, drop, List, arith, length-drop, Command, flat}
 use Rattle.lx_gate.proofs.Imports.{IsLonger}
 use Rattle.lx_gate.proofs.BatchAddition.{adds_moves, adds_longer}
 use Rattle.lx_gate.proofs.history.Prefix.extend.Goals as goal
