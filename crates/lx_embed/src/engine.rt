@@ -17,8 +17,8 @@ ghost use Rattle.lx_embed.specs.Told.{AcceptedTicks};
 use crate::reply::ReplyText;
 use crate::ticks::{tick_plain, tick_undo};
 use lx_console::Console;
-use lx_io::SinkFault;
-use lx_session::{Answers, NoListener, Tally, answer};
+use lx_io::{SinkFault, SystemHeap};
+use lx_session::{Answers, NoListener, Tally, answer_inlined};
 use lx_show::Show;
 use lx_undo::UndoDesk;
 use std::alloc::{AllocError, Global};
@@ -92,7 +92,15 @@ fn answer_plain(
         → AnswersLine (desk_answering true) (λ next. StandsFor next.desk console.new) (begun d) line.now result (reply_bytes reply.new) }
 {
     let mut tally = Tally::new();
-    answer(&mut NoListener, console, Some(line), reply, &mut tally)
+    let mut heap = SystemHeap::new(console.allocator());
+    answer_inlined(
+        &mut NoListener,
+        &mut heap,
+        console,
+        Some(line),
+        reply,
+        &mut tally,
+    )
 }
 
 /// Does one line of the script of a desk with a history, whose reply is appended. It is a function of its own, so that a line of a
