@@ -5,7 +5,6 @@ ghost use Rattle.std.specs.Prelude.{◌≡◌, ◌≤◌, ◌<◌, ◌+◌, ◌^
 ghost use Rattle.std.specs.Io.KnownBytes.{WriteAppends, Keeps};
 ghost use Rattle.lx_io.specs.Causes.{HasCause};
 ghost use Rattle.lx_io.specs.SinkCalls.{HasSinkCauseBy};
-ghost use Rattle.lx_embed.specs.ReplyBytes.{wants_of};
 
 use lx_io::{Heap, Sink, SinkFault, SystemHeap, TEXT_ROOM, Text, write_behind};
 use std::alloc::{AllocError, Global};
@@ -26,7 +25,7 @@ pub struct ReplyText {
 }
 
 impl ReplyText {
-    ghost use Rattle.lx_embed.specs.ReplyBytes.{reply_bytes};
+    ghost use Rattle.lx_embed.specs.ReplyBytes.{reply_bytes, wants_of};
 
     /// The empty reply.
     pub(crate) fn new(alloc: Global) -> ReplyText
@@ -114,7 +113,7 @@ impl ReplyText {
 }
 
 impl Sink for ReplyText {
-    ghost use Rattle.lx_embed.specs.ReplyBytes.{reply_bytes};
+    ghost use Rattle.lx_embed.specs.ReplyBytes.{reply_bytes, wants_of};
 
     ghost holds = { λ s. Some (reply_bytes s) };
 
