@@ -10,6 +10,7 @@ use Rattle.lx_spec.specs.Undo.{UndoState}
 use Rattle.lx_spec.specs.UndoSession.{undo_answering}
 use Rattle.lx_console.specs.ConsoleMeaning.{StandsFor}
 use Rattle.lx_session.specs.OneAnswer.{GoesOnBy}
+use Rattle.lx_session.specs.Spared.{HasStood, spared}
 use Rattle.lx_undo.specs.UndoDeskMeaning.{UndoStands}
 use Rattle.lx_embed.specs.declared.engine.Engine.{Engine}
 use Rattle.lx_embed.specs.declared.engine.Engine.TheVariants.{Plain, Undo}
@@ -26,14 +27,18 @@ pub record AnswersLine (by : Answering (List ℕ)) (Stands : by.State → Type 0
   pub front : OnErr result (StartsWith next.text reply)
   pub more : IfOk result (λ more. more ≡ not (ends_script line))
 
--- each desk for which the engine stood answered the line so
-abbrev pub Answered : Engine → Engine → List ℕ → Result Bool SinkFault → List ℕ → Type 0
-Answered (Plain before) (Plain now) line result reply = (d : Desk) → StandsFor d before
-    → AnswersLine (desk_answering true) (λ next. StandsFor next.desk now) (begun d) line result reply
-Answered (Undo before) (Undo now) line result reply = (s : UndoState) → UndoStands s before
-    → AnswersLine undo_answering (λ next. UndoStands next now) s line result reply
-Answered (Plain before) (Undo now) line result reply = ⊥
-Answered (Undo before) (Plain now) line result reply = ⊥
+-- Each desk for which the engine stood answered the line so; where memory was ample no attempt of it failed.
+abbrev pub Answered : Bool → Engine → Engine → List ℕ → Result Bool SinkFault → List ℕ → Type 0
+Answered ample (Plain before) (Plain now) line result reply = (d : Desk) → StandsFor d before
+    → AnswersLine (spared ample (desk_answering true)) (λ next. StandsFor next.desk now) (begun d) line result reply
+Answered ample (Undo before) (Undo now) line result reply = (s : UndoState) → UndoStands s before
+    → AnswersLine (spared ample undo_answering) (λ next. UndoStands next now) s line result reply
+Answered ample (Plain before) (Undo now) line result reply = ⊥
+Answered ample (Undo before) (Plain now) line result reply = ⊥
+
+-- What holds where memory was ample and where it may not have been: it was, if the heap refused nothing.
+abbrev pub ByMemory : (refusals refusals' : ℕ) → (Bool → Type 0) → Type 0
+ByMemory refusals refusals' P = (ample : Bool) → (ample ≡ true → HasStood refusals refusals') → P ample
 
 -- no LF and no CR is among the bytes
 abbrev pub is_bare : List ℕ → Bool

@@ -1,18 +1,19 @@
 //! The desk that a host embeds.
 
-ghost use Rattle.std.specs.Prelude.{◌≡◌, ◌≢◌, ◌≤◌, ◌<◌, ◌↔◌, ℕ, None, Some, true, false, length, IsSome, IfSome, IfOk, IfErr};
+ghost use Rattle.std.specs.Prelude.{◌≡◌, ◌≢◌, ◌≤◌, ◌<◌, ◌↔◌, ℕ, None, Some, true, false, length, IsSome, IfSome, IfOk, IfErr, OnErr};
 ghost use Rattle.std.specs.Result.{IsErr};
 ghost use Rattle.lx_base.specs.declared.TheConstants.{CUE_MAX, SUBS, UNIVERSES, UNIVERSE_SLOTS};
+ghost use Rattle.lx_io.specs.Causes.{HasCauseOf, Rose};
 ghost use Rattle.lx_spec.specs.declared.Command.TheVariants as Command;
 ghost use Rattle.lx_spec.specs.Desk.{Desk, step};
 ghost use Rattle.lx_spec.specs.Output.{fader, frame};
 ghost use Rattle.lx_spec.specs.RecordedLevels.{on_stage};
 ghost use Rattle.lx_spec.specs.TrackedLevel.{tracked};
 ghost use Rattle.lx_console.specs.ConsoleMeaning.{StandsFor};
-ghost use Rattle.lx_embed.specs.Answered.{Answered};
+ghost use Rattle.lx_embed.specs.Answered.{Answered, ByMemory};
 ghost use Rattle.lx_embed.specs.Engines.{console_of};
 ghost use Rattle.lx_embed.specs.Opened.{OpensText, RefusesShow};
-ghost use Rattle.lx_embed.specs.ReplyBytes.{reply_bytes};
+ghost use Rattle.lx_embed.specs.ReplyBytes.{reply_bytes, wants_of};
 ghost use Rattle.lx_embed.specs.TakenSlots.{taken_of};
 ghost use Rattle.lx_embed.specs.Told.{Stands, AcceptedTicks};
 
@@ -23,17 +24,19 @@ use crate::shown::{fader_of, frame_of, is_universe, level_of, tracked_of};
 use crate::state::{PlaybackState, state_of};
 use crate::taken::Taken;
 use lx_base::{Level, UNIVERSE_SLOTS};
-use lx_io::SinkFault;
+use lx_io::{Heap, SinkFault, SystemHeap};
 use lx_reader::ShowFault;
 use lx_show::Form;
 use std::alloc::Global;
 
-/// A desk for a program that embeds it: what answers, the reply to the last line, and what was taken last of each universe.
+/// A desk for a program that embeds it: what answers, the reply to the last line, what was taken last of each universe, and where its
+/// lines take their memory, where they aren't given a heap.
 #[derive(Drop)]
 pub struct HostDesk {
     pub engine: Engine,
     pub reply: ReplyText,
     pub taken: Taken,
+    pub heap: SystemHeap,
 }
 
 impl HostDesk {
@@ -51,22 +54,55 @@ impl HostDesk {
         ensures untaken { IfOk result (λ desk. (u : ℕ) → 1 ≤ u → u ≤ UNIVERSES → taken_of desk.taken u ≡ None) }
         ensures refuses { IfErr result (RefusesShow form text.now) }
     {
+        HostDesk::open_in(&mut SystemHeap::new(alloc), text, form, depth)
+    }
+
+    /// The same, by a heap: `Memory` comes only where the heap refused some in this call.
+    pub fn open_in<H: Heap>(
+        heap: &mut H,
+        text: &[u8],
+        form: Form,
+        depth: Option<u32>,
+    ) -> Result<HostDesk, ShowFault>
+        ensures opens { IfOk result (λ desk. OpensText form depth text.now desk.engine) }
+        ensures untaken { IfOk result (λ desk. (u : ℕ) → 1 ≤ u → u ≤ UNIVERSES → taken_of desk.taken u ≡ None) }
+        ensures refuses { IfErr result (RefusesShow form text.now) }
+        ensures wanted { HasCauseOf ShowFault.Memory (H.refusals heap.old) (H.refusals heap.new) result }
+    {
+        let engine = open_text(heap, text, form, depth)?;
+        let alloc = heap.allocator();
         Ok(HostDesk {
-            engine: open_text(alloc, text, form, depth)?,
+            engine,
             reply: ReplyText::new(alloc),
             taken: Taken::nothing(),
+            heap: SystemHeap::new(alloc),
         })
     }
 
     /// Does one line of a script, and keeps its reply in the place of the last. It answers false exactly for `quit`. A line that is too
-    /// long is bad.
+    /// long is bad. Where the desk's heap refused nothing in this call, no edit and no record was refused for want of memory.
     ///
-    /// A fault comes only where memory ran out for the reply: the line was done, and of its reply a front is kept.
+    /// A fault comes only where memory was refused for the reply: the line was done, and of its reply a front is kept.
     pub fn command(&mut self, line: &[u8]) -> Result<bool, SinkFault>
-        ensures answered { Answered self.old.engine self.new.engine line.now result (reply_bytes self.new.reply) }
+        ensures answered { ByMemory self.old.heap.refusals self.new.heap.refusals
+            (λ ample. Answered ample self.old.engine self.new.engine line.now result (reply_bytes self.new.reply)) }
+        ensures wanted { OnErr result (Rose (wants_of self.old.reply) (wants_of self.new.reply)) }
         ensures taken { self.new.taken ≡ self.old.taken }
     {
-        self.engine.answer(line, &mut self.reply)
+        self.engine.answer_in(&mut self.heap, line, &mut self.reply)
+    }
+
+    /// The same, by a heap, which edits and records take their memory from: where it refused nothing in this call, none was refused
+    /// for want of memory.
+    pub fn command_in<H: Heap>(&mut self, heap: &mut H, line: &[u8]) -> Result<bool, SinkFault>
+        ensures answered { ByMemory (H.refusals heap.old) (H.refusals heap.new)
+            (λ ample. Answered ample self.old.engine self.new.engine line.now result (reply_bytes self.new.reply)) }
+        ensures wanted { OnErr result (Rose (wants_of self.old.reply) (wants_of self.new.reply)) }
+        ensures taken { self.new.taken ≡ self.old.taken }
+        ensures heap { self.new.heap ≡ self.old.heap }
+        ensures later { H.refusals heap.old ≤ H.refusals heap.new }
+    {
+        self.engine.answer_in(heap, line, &mut self.reply)
     }
 
     /// The reply to the last line.
@@ -81,7 +117,7 @@ impl HostDesk {
         ensures most { result ≤ n }
         ensures ticks { AcceptedTicks self.old.engine result self.new.engine }
         ensures end { result < n → (d : Desk) → StandsFor d (console_of self.new.engine) → IsErr (step d Command.Tick) }
-        ensures kept { (self.new.reply ≡ self.old.reply) × (self.new.taken ≡ self.old.taken) }
+        ensures kept { (self.new.reply ≡ self.old.reply) × ((self.new.taken ≡ self.old.taken) × (self.new.heap ≡ self.old.heap)) }
     {
         self.engine.tick(n)
     }
@@ -93,7 +129,7 @@ impl HostDesk {
         ensures others { (u : ℕ) → 1 ≤ u → u ≢ universe → taken_of self.new.taken u ≡ taken_of self.old.taken u }
         ensures refused { result ≡ false → (out.new ≡ out.old) × (self.new ≡ self.old) }
         ensures given { 1 ≤ universe → universe ≤ UNIVERSES → length out.old ≡ UNIVERSE_SLOTS → result ≡ true }
-        ensures kept { (self.new.engine ≡ self.old.engine) × (self.new.reply ≡ self.old.reply) }
+        ensures kept { (self.new.engine ≡ self.old.engine) × ((self.new.reply ≡ self.old.reply) × (self.new.heap ≡ self.old.heap)) }
     {
         if !is_universe(universe) || out.len() != UNIVERSE_SLOTS {
             return false;

@@ -1,27 +1,29 @@
 //! What a host's desk answers with: a plain desk, or one with its history.
 
-ghost use Rattle.std.specs.Prelude.{◌≡◌, ◌≤◌, ◌<◌, [], true, IfOk};
+ghost use Rattle.std.specs.Prelude.{◌≡◌, ◌≤◌, ◌<◌, [], true, IfOk, OnErr};
 ghost use Rattle.std.specs.Result.{IsErr};
+ghost use Rattle.lx_io.specs.Causes.{HasCause, Rose};
 ghost use Rattle.lx_spec.specs.declared.Command.TheVariants as Command;
 ghost use Rattle.lx_spec.specs.Desk.{Desk, step};
 ghost use Rattle.lx_spec.specs.Undo.{UndoState};
 ghost use Rattle.lx_spec.specs.DeskSession.{begun, desk_answering};
 ghost use Rattle.lx_spec.specs.UndoSession.{undo_answering};
 ghost use Rattle.lx_console.specs.ConsoleMeaning.{StandsFor};
+ghost use Rattle.lx_session.specs.Spared.{spared};
 ghost use Rattle.lx_undo.specs.UndoDeskMeaning.{UndoStands};
-ghost use Rattle.lx_embed.specs.Answered.{Answered, AnswersLine};
+ghost use Rattle.lx_embed.specs.Answered.{Answered, AnswersLine, ByMemory};
 ghost use Rattle.lx_embed.specs.Engines.{console_of, OpenedAs};
-ghost use Rattle.lx_embed.specs.ReplyBytes.{reply_bytes};
+ghost use Rattle.lx_embed.specs.ReplyBytes.{reply_bytes, wants_of};
 ghost use Rattle.lx_embed.specs.Told.{AcceptedTicks};
 
 use crate::reply::ReplyText;
 use crate::ticks::{tick_plain, tick_undo};
 use lx_console::Console;
-use lx_io::SinkFault;
-use lx_session::{Answers, NoListener, Tally, answer};
+use lx_io::{Heap, SinkFault};
+use lx_session::{Answers, NoListener, Tally, answer_inlined};
 use lx_show::Show;
 use lx_undo::UndoDesk;
-use std::alloc::{AllocError, Global};
+use std::alloc::AllocError;
 
 /// A plain desk, or one that keeps the shows that its edits and records replaced.
 #[derive(Drop)]
@@ -33,13 +35,19 @@ pub enum Engine {
 }
 
 impl Engine {
-    /// A desk over the show, as at the opening: a plain one, or where a depth is given one that keeps this many shows.
-    pub(crate) fn open(alloc: Global, show: Show, depth: Option<u32>) -> Result<Engine, AllocError>
-        ensures { IfOk result (OpenedAs depth show) }
+    /// A desk over the show, as at the opening: a plain one, or where a depth is given one that keeps this many shows. An error comes
+    /// where the heap refuses memory.
+    pub(crate) fn open_in<H: Heap>(
+        heap: &mut H,
+        show: Show,
+        depth: Option<u32>,
+    ) -> Result<Engine, AllocError>
+        ensures opens { IfOk result (OpenedAs depth show) }
+        ensures cause { HasCause (H.refusals heap.old) (H.refusals heap.new) result }
     {
         match depth {
-            None => Ok(Engine::Plain(Console::open(alloc, show)?)),
-            Some(depth) => Ok(Engine::Undo(UndoDesk::open(alloc, show, depth as usize)?)),
+            None => Ok(Engine::Plain(Console::open_in(heap, show)?)),
+            Some(depth) => Ok(Engine::Undo(UndoDesk::open_in(heap, show, depth as usize)?)),
         }
     }
 
@@ -53,16 +61,25 @@ impl Engine {
         }
     }
 
-    /// Does one line of a script, and keeps its reply, in the place of the last. It answers false exactly for `quit`.
+    /// Does one line of a script, and keeps its reply, in the place of the last. It answers false exactly for `quit`. Where the heap
+    /// refused nothing in this call, no attempt failed for memory.
     ///
-    /// A fault comes only where memory ran out for the reply: the line was done, and of its reply a front is kept.
-    pub(crate) fn answer(&mut self, line: &[u8], reply: &mut ReplyText) -> Result<bool, SinkFault>
-        ensures { Answered self.old self.new line.now result (reply_bytes reply.new) }
+    /// A fault comes only where memory was refused for the reply: the line was done, and of its reply a front is kept.
+    pub(crate) fn answer_in<H: Heap>(
+        &mut self,
+        heap: &mut H,
+        line: &[u8],
+        reply: &mut ReplyText,
+    ) -> Result<bool, SinkFault>
+        ensures answered { ByMemory (H.refusals heap.old) (H.refusals heap.new)
+            (λ ample. Answered ample self.old self.new line.now result (reply_bytes reply.new)) }
+        ensures wanted { OnErr result (Rose (wants_of reply.old) (wants_of reply.new)) }
+        ensures later { H.refusals heap.old ≤ H.refusals heap.new }
     {
         reply.clear();
         match self {
-            Engine::Plain(console) => answer_plain(console, line, reply),
-            Engine::Undo(desk) => answer_undo(desk, line, reply),
+            Engine::Plain(console) => answer_plain(console, heap, line, reply),
+            Engine::Undo(desk) => answer_undo(desk, heap, line, reply),
         }
     }
 }
@@ -82,27 +99,45 @@ impl Engine {
 }
 
 /// Does one line of a plain desk's script, whose reply is appended.
-fn answer_plain(
+fn answer_plain<H: Heap>(
     console: &mut Console,
+    heap: &mut H,
     line: &[u8],
     reply: &mut ReplyText,
 ) -> Result<bool, SinkFault>
     requires { reply_bytes reply.old ≡ [] }
-    ensures { (d : Desk) → StandsFor d console.old
-        → AnswersLine (desk_answering true) (λ next. StandsFor next.desk console.new) (begun d) line.now result (reply_bytes reply.new) }
+    ensures answered { ByMemory (H.refusals heap.old) (H.refusals heap.new) (λ ample. (d : Desk) → StandsFor d console.old
+        → AnswersLine (spared ample (desk_answering true)) (λ next. StandsFor next.desk console.new) (begun d) line.now result
+        (reply_bytes reply.new)) }
+    ensures wanted { OnErr result (Rose (wants_of reply.old) (wants_of reply.new)) }
+    ensures later { H.refusals heap.old ≤ H.refusals heap.new }
 {
     let mut tally = Tally::new();
-    answer(&mut NoListener, console, Some(line), reply, &mut tally)
+    answer_inlined(
+        &mut NoListener,
+        heap,
+        console,
+        Some(line),
+        reply,
+        &mut tally,
+    )
 }
 
 /// Does one line of the script of a desk with a history, whose reply is appended. It is a function of its own, so that a line of a
 /// plain desk doesn't pay for its room.
 #[inline(never)]
-fn answer_undo(desk: &mut UndoDesk, line: &[u8], reply: &mut ReplyText) -> Result<bool, SinkFault>
+fn answer_undo<H: Heap>(
+    desk: &mut UndoDesk,
+    heap: &mut H,
+    line: &[u8],
+    reply: &mut ReplyText,
+) -> Result<bool, SinkFault>
     requires { reply_bytes reply.old ≡ [] }
-    ensures { (s : UndoState) → UndoStands s desk.old
-        → AnswersLine undo_answering (λ next. UndoStands next desk.new) s line.now result (reply_bytes reply.new) }
+    ensures answered { ByMemory (H.refusals heap.old) (H.refusals heap.new) (λ ample. (s : UndoState) → UndoStands s desk.old
+        → AnswersLine (spared ample undo_answering) (λ next. UndoStands next desk.new) s line.now result (reply_bytes reply.new)) }
+    ensures wanted { OnErr result (Rose (wants_of reply.old) (wants_of reply.new)) }
+    ensures later { H.refusals heap.old ≤ H.refusals heap.new }
 {
     let mut tally = Tally::new();
-    desk.answer(Some(line), reply, &mut tally)
+    desk.answer_in(heap, Some(line), reply, &mut tally)
 }

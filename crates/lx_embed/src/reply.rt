@@ -2,29 +2,30 @@
 #![tactic(auto, using(lx_io::proofs::Chain::puts))]
 
 ghost use Rattle.std.specs.Prelude.{◌≡◌, ◌≤◌, ◌<◌, ◌+◌, ◌^◌, ◌++◌, [], Some, length, IsOk, IfOk, OnOk};
-ghost use Rattle.std.specs.Bool.{OnTrue};
 ghost use Rattle.std.specs.Io.KnownBytes.{WriteAppends, Keeps};
+ghost use Rattle.lx_io.specs.Causes.{HasCause};
 ghost use Rattle.lx_io.specs.SinkCalls.{HasSinkCauseBy};
 
-use lx_io::{Sink, SinkFault, TEXT_ROOM, Text, write_behind};
-use std::alloc::Global;
+use lx_io::{Heap, Sink, SinkFault, SystemHeap, TEXT_ROOM, Text, write_behind};
+use std::alloc::{AllocError, Global};
 
 /// How much room the first reply opens.
 const FIRST: usize = 8_192;
 
-/// The reply to a line. Its room is used again for the next, so that few lines take memory. A write fails only for lack of memory.
+/// The reply to a line. Its room is used again for the next, so that few lines take memory. A write fails only where the heap refuses the
+/// room for it.
 #[derive(Drop)]
 pub struct ReplyText {
     /// The room that was opened so far, of which the first bytes are the reply.
     room: Vec<u8>,
     len: usize,
-    /// How many writes ran out of memory.
-    wants: u64,
+    /// Where its room comes from, which counts what it refused.
+    heap: SystemHeap,
     ghost within: { len ≤ length room.items },
 }
 
 impl ReplyText {
-    ghost use Rattle.lx_embed.specs.ReplyBytes.{reply_bytes};
+    ghost use Rattle.lx_embed.specs.ReplyBytes.{reply_bytes, wants_of};
 
     /// The empty reply.
     pub(crate) fn new(alloc: Global) -> ReplyText
@@ -33,14 +34,14 @@ impl ReplyText {
         ReplyText {
             room: Vec::new(alloc),
             len: 0,
-            wants: 0,
+            heap: SystemHeap::new(alloc),
         }
     }
 
     /// Makes it empty again.
     pub(crate) fn clear(&mut self)
         ensures bytes { reply_bytes self.new ≡ [] }
-        ensures wants { self.new.wants ≡ self.old.wants }
+        ensures wants { wants_of self.new ≡ wants_of self.old }
     {
         self.len = 0;
     }
@@ -57,7 +58,7 @@ impl ReplyText {
     fn keep(&mut self, text: &[u8])
         requires { self.old.len + length text.now ≤ length self.old.room.items }
         ensures bytes { reply_bytes self.new ≡ reply_bytes self.old ++ text.now }
-        ensures wants { self.new.wants ≡ self.old.wants }
+        ensures wants { wants_of self.new ≡ wants_of self.old }
     {
         let end = self.len + text.len();
         self.room[self.len..end].copy_from_slice(text);
@@ -70,7 +71,7 @@ impl ReplyText {
         requires { count < 2 ^ 63 }
         ensures bytes { reply_bytes self.new ≡ reply_bytes self.old }
         ensures room { OnOk result (self.new.len + count ≤ length self.new.room.items) }
-        ensures cause { HasSinkCauseBy (λ _. 0) (λ s. s.wants) self.old self.new result }
+        ensures cause { HasSinkCauseBy (λ _. 0) wants_of self.old self.new result }
     {
         if self.len + count > self.room.len() {
             return self.make_room(count);
@@ -78,37 +79,41 @@ impl ReplyText {
         Ok(())
     }
 
-    /// Opens so much more room, and counts where there is no memory for it.
+    /// Opens so much more room.
     #[cold]
     #[inline(never)]
     fn make_room(&mut self, count: usize) -> Result<(), SinkFault>
+        requires { count < 2 ^ 63 }
         ensures bytes { reply_bytes self.new ≡ reply_bytes self.old }
         ensures room { OnOk result (self.new.len + count ≤ length self.new.room.items) }
-        ensures cause { HasSinkCauseBy (λ _. 0) (λ s. s.wants) self.old self.new result }
+        ensures cause { HasSinkCauseBy (λ _. 0) wants_of self.old self.new result }
     {
-        if !self.open(count) {
-            self.wants = self.wants.saturating_add(1);
-            return Err(SinkFault::Memory);
+        match self.open(self.len + count) {
+            Ok(()) => Ok(()),
+            Err(_) => Err(SinkFault::Memory),
         }
-        Ok(())
     }
 
-    /// Opens at least so much room behind the reply, twice what there was where that is more, and says whether there was memory for it.
-    fn open(&mut self, count: usize) -> bool
+    /// Opens at least so much room in all, twice what there was where that is more. An error comes where the heap refuses it.
+    fn open(&mut self, least: usize) -> Result<(), AllocError>
+        requires { self.old.len ≤ least }
         ensures bytes { reply_bytes self.new ≡ reply_bytes self.old }
-        ensures room { OnTrue result (self.new.len + count ≤ length self.new.room.items) }
-        ensures wants { self.new.wants ≡ self.old.wants }
+        ensures len { self.new.len ≡ self.old.len }
+        ensures room { OnOk result (least ≤ length self.new.room.items) }
+        ensures cause { HasCause (wants_of self.old) (wants_of self.new) result }
     {
-        let Some(least) = self.len.checked_add(count) else {
-            return false;
-        };
-        let opened = self.room.len().saturating_mul(2).max(FIRST).max(least);
-        self.room.resize(opened, 0).is_ok()
+        let there = self.room.len();
+        let opened = there.saturating_mul(2).max(FIRST).max(least);
+        self.heap.reserve(&mut self.room, opened - there)?;
+        match self.room.resize(opened, 0) {
+            Ok(()) => Ok(()),
+            Err(_) => unreachable!(),
+        }
     }
 }
 
 impl Sink for ReplyText {
-    ghost use Rattle.lx_embed.specs.ReplyBytes.{reply_bytes};
+    ghost use Rattle.lx_embed.specs.ReplyBytes.{reply_bytes, wants_of};
 
     ghost holds = { λ s. Some (reply_bytes s) };
 
@@ -116,14 +121,14 @@ impl Sink for ReplyText {
 
     ghost faults = { λ _. 0 };
 
-    ghost wants = { λ s. s.wants };
+    ghost wants = { wants_of };
 
     /// Takes the whole piece.
     fn write(&mut self, piece: &[u8]) -> Result<usize, SinkFault>
         requires { 0 < length piece.now }
         ensures bound { IfOk result (λ n. (0 < n) × (n ≤ length piece.now)) }
         ensures bytes { WriteAppends (Some (reply_bytes self.old)) (Some (reply_bytes self.new)) result piece.now }
-        ensures cause { HasSinkCauseBy (λ _. 0) (λ s. s.wants) self.old self.new result }
+        ensures cause { HasSinkCauseBy (λ _. 0) wants_of self.old self.new result }
         ensures whole { IfOk result (λ n. n ≡ length piece.now) }
     {
         self.ensure_room(piece.len())?;
@@ -134,7 +139,7 @@ impl Sink for ReplyText {
     /// Nothing is kept back.
     fn flush(&mut self) -> Result<(), SinkFault>
         ensures holds { Keeps (Some (reply_bytes self.old)) (Some (reply_bytes self.new)) }
-        ensures cause { HasSinkCauseBy (λ _. 0) (λ s. s.wants) self.old self.new result }
+        ensures cause { HasSinkCauseBy (λ _. 0) wants_of self.old self.new result }
         ensures ok { IsOk result }
     {
         Ok(())

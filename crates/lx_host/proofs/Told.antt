@@ -1,11 +1,11 @@
 -- A refused show is told by the report of its fault.
-use Rattle.lx_host.proofs.Imports.{◌≡◌, ℕ, ◌<◌, List, length, arith, Form, Refused}
+use Rattle.lx_host.proofs.Imports.{◌≡◌, ℕ, ◌<◌, List, length, refl, arith, Form, Refused}
 use Rattle.lx_base.specs.declared.TheConstants.{INPUT_BYTES}
 use Rattle.lx_reader.specs.declared.fault.ShowFault.{ShowFault}
 use Rattle.lx_reader.specs.declared.fault.ShowFault.TheVariants as faults
 use Rattle.lx_embed.specs.Opened.{RefusesShow}
 use Rattle.lx_host.specs.declared.status.ShowReport.{ShowReport}
-use Rattle.lx_host.specs.declared.status.TheConstants.{SHOW_REFUSED, TOO_LONG}
+use Rattle.lx_host.specs.declared.status.TheConstants.{MEMORY, SHOW_REFUSED, TOO_LONG}
 use Rattle.lx_host.specs.Told.{status_of, show_report}
 
 pub refused_told : (form : Form) (text : List ℕ) (fault : ShowFault) (s : ℕ) (report : ShowReport) → s ≡ status_of fault
@@ -28,3 +28,10 @@ never_ok (faults.Text fault) s is ok = omega (arith, is, ok)
 never_ok faults.ReadFault s is ok = omega (arith, is, ok)
 never_ok faults.InputTooLong s is ok = omega (arith, is, ok)
 never_ok faults.Memory s is ok = omega (arith, is, ok)
+
+-- MEMORY tells of want of memory alone
+pub memory_told : (fault : ShowFault) (s : ℕ) → s ≡ status_of fault → s ≡ MEMORY → fault ≡ faults.Memory
+memory_told (faults.Text fault) s is memory = absurd (omega (arith, is, memory))
+memory_told faults.ReadFault s is memory = absurd (omega (arith, is, memory))
+memory_told faults.InputTooLong s is memory = absurd (omega (arith, is, memory))
+memory_told faults.Memory s is memory = refl

@@ -1,7 +1,8 @@
 -- What the calls of a desk come to, from what its handle held before to what it holds now.
-use Rattle.std.specs.Prelude.{◌≡◌, ◌≢◌, ◌≤◌, ◌↔◌, ℕ, ◌-◌, min, Bool, true, false, Option, Some, None, Result, Ok, Err, List, length, take, drop, IfSome}
+use Rattle.std.specs.Prelude.{◌≡◌, ◌≢◌, ◌≤◌, ◌↔◌, ℕ, ◌-◌, min, Bool, true, false, Option, Some, None, Result, Ok, Err, List, length, take, drop, IfSome, OnErr}
 use Rattle.std.specs.Result.{IsErr}
 use Rattle.lx_base.specs.declared.TheConstants.{UNIVERSES}
+use Rattle.lx_io.specs.Causes.{Rose}
 use Rattle.lx_io.specs.declared.sink.SinkFault.{SinkFault}
 use Rattle.lx_spec.specs.declared.Command.TheVariants as commands
 use Rattle.lx_spec.specs.declared.Form.{Form}
@@ -16,10 +17,10 @@ use Rattle.lx_reader.specs.declared.fault.ShowFault.TheVariants.{Text}
 use Rattle.lx_console.specs.ConsoleMeaning.{StandsFor}
 use Rattle.lx_embed.specs.declared.desk.HostDesk.{HostDesk}
 use Rattle.lx_embed.specs.declared.state.PlaybackState.{PlaybackState}
-use Rattle.lx_embed.specs.Answered.{Answered}
+use Rattle.lx_embed.specs.Answered.{Answered, ByMemory}
 use Rattle.lx_embed.specs.Engines.{console_of}
 use Rattle.lx_embed.specs.Opened.{OpensText}
-use Rattle.lx_embed.specs.ReplyBytes.{reply_bytes}
+use Rattle.lx_embed.specs.ReplyBytes.{reply_bytes, wants_of}
 use Rattle.lx_embed.specs.TakenSlots.{taken_of}
 use Rattle.lx_embed.specs.Told.{Stands, AcceptedTicks}
 use Rattle.lx_host.specs.declared.status.PlaybackReport.{PlaybackReport}
@@ -54,13 +55,15 @@ tells (Ok false) fits = QUIT
 tells (Err fault) fits = MEMORY
 
 -- The line was answered by every desk for which the engine stood, and the front of the room has as much of the reply as fits; all the rest is
--- as it was.
+-- as it was. Where the desk's heap refused nothing no edit was refused for memory, and MEMORY comes only where that of the reply refused some.
 pub record DidLine (status : ℕ) (before now : HostDesk) (line : List ℕ) (room : List ℕ) (count : ℕ) : Type 0 where
   pub answer : Result Bool SinkFault
   pub fits : Bool
   pub told : status ≡ tells answer fits
   pub whole : (fits ≡ true) ↔ (length (reply_bytes now.reply) ≤ length room)
-  pub answers : Answered before.engine now.engine line answer (reply_bytes now.reply)
+  pub answers : ByMemory before.heap.refusals now.heap.refusals
+      (λ ample. Answered ample before.engine now.engine line answer (reply_bytes now.reply))
+  pub wanted : OnErr answer (Rose (wants_of before.reply) (wants_of now.reply))
   pub taken : now.taken ≡ before.taken
   pub length_told : count ≡ length (reply_bytes now.reply)
   pub front : take (min count (length room)) room ≡ take (min count (length room)) (reply_bytes now.reply)
@@ -85,6 +88,7 @@ pub record HasTicked (before : HostDesk) (n : ℕ) (now : HostDesk) : Type 0 whe
   pub ticks : AcceptedTicks before.engine n now.engine
   pub reply : now.reply ≡ before.reply
   pub taken : now.taken ≡ before.taken
+  pub heap : now.heap ≡ before.heap
 
 abbrev pub Ticks : Option HostDesk → ℕ → Option HostDesk → Type 0
 Ticks (Some before) n (Some now) = HasTicked before n now
@@ -99,6 +103,7 @@ pub record HandsOutFrame (before : HostDesk) (u : ℕ) (bytes : List ℕ) (now :
   pub others : (v : ℕ) → 1 ≤ v → v ≢ u → taken_of now.taken v ≡ taken_of before.taken v
   pub engine : now.engine ≡ before.engine
   pub reply : now.reply ≡ before.reply
+  pub heap : now.heap ≡ before.heap
 
 abbrev pub ShowsFrame : Option HostDesk → ℕ → List ℕ → Option HostDesk → Type 0
 ShowsFrame (Some before) u bytes (Some now) = HandsOutFrame before u bytes now

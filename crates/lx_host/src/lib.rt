@@ -12,16 +12,17 @@ mod status;
 
 ghost use Rattle.std.specs.Prelude.{◌≡◌, ◌≢◌, ◌≤◌, ◌<◌, ◌↔◌, IfSome, IfOk, IfErr, None, Some, Bool, is_some, true, false, length, min, take};
 ghost use Rattle.lx_base.specs.declared.TheConstants.{CUE_MAX, INPUT_BYTES, SUBS, UNIVERSES, UNIVERSE_SLOTS};
+ghost use Rattle.lx_io.specs.Causes.{HasCauseOf, Rose};
 ghost use Rattle.lx_embed.specs.Answered.{is_bare};
 ghost use Rattle.lx_embed.specs.Opened.{RefusesShow};
 ghost use Rattle.lx_embed.specs.ReplyBytes.{reply_bytes};
-ghost use Rattle.lx_host.specs.declared.status.TheConstants.{OK, CLOSED, OPEN, SHOW_REFUSED, TOO_LONG, NOT_A_LINE, AT_END, OUT_OF_RANGE, VERSION};
+ghost use Rattle.lx_host.specs.declared.status.TheConstants.{OK, CLOSED, OPEN, MEMORY, SHOW_REFUSED, TOO_LONG, NOT_A_LINE, AT_END, OUT_OF_RANGE, VERSION};
 ghost use Rattle.lx_host.specs.Calls.{form_of_flag, tells, OpensDesk, Opens, Refused, Did, HasPart, Ticks, IsOver, ShowsFrame};
 ghost use Rattle.lx_host.specs.Calls.{IsChannel, TellsChange, TellsLevel, TellsTracked, TellsFader, TellsState};
 
 use desk::CueDesk;
 use lx_embed::{HostDesk, is_line};
-use lx_io::SinkFault;
+use lx_io::{Heap, SinkFault, SystemHeap};
 use lx_reader::ShowFault;
 use lx_show::Form;
 use report::{playback_for, told};
@@ -57,7 +58,8 @@ pub extern "C" fn cuedesk_open(
     ensures open { is_some desk.old.handle.held ≡ true → (result ≡ OPEN) × (report.new ≡ report.old) }
     ensures same { result ≢ OK → desk.new.handle.held ≡ desk.old.handle.held }
 {
-    open_with(alloc, desk, text, states, None, report)
+    let mut heap = SystemHeap::new(alloc);
+    open_with(&mut heap, desk, text, states, None, report)
 }
 
 /// The same, of a desk that keeps the last `depth` shows that edits and records replace, and knows `undo`, `redo` and `record`.
@@ -76,12 +78,13 @@ pub extern "C" fn cuedesk_open_undo(
     ensures open { is_some desk.old.handle.held ≡ true → (result ≡ OPEN) × (report.new ≡ report.old) }
     ensures same { result ≢ OK → desk.new.handle.held ≡ desk.old.handle.held }
 {
-    open_with(alloc, desk, text, states, Some(depth), report)
+    let mut heap = SystemHeap::new(alloc);
+    open_with(&mut heap, desk, text, states, Some(depth), report)
 }
 
-/// Opens a closed desk, plain or with a history.
-fn open_with(
-    alloc: Global,
+/// Opens a closed desk, plain or with a history. MEMORY comes only where the heap refused some.
+fn open_with<H: Heap>(
+    heap: &mut H,
     desk: &mut CueDesk,
     text: &[u8],
     states: bool,
@@ -93,11 +96,12 @@ fn open_with(
     ensures long { result ≡ TOO_LONG → INPUT_BYTES < length text.now }
     ensures open { is_some desk.old.handle.held ≡ true → (result ≡ OPEN) × (report.new ≡ report.old) }
     ensures same { result ≢ OK → desk.new.handle.held ≡ desk.old.handle.held }
+    ensures wanted { result ≡ MEMORY → Rose (H.refusals heap.old) (H.refusals heap.new) }
 {
     if desk.is_open() {
         return OPEN;
     }
-    match opened(alloc, text, form_for(states), depth) {
+    match opened(heap, text, form_for(states), depth) {
         Ok(host) => {
             *desk = CueDesk::of(host);
             OK
@@ -106,18 +110,19 @@ fn open_with(
     }
 }
 
-/// A desk over a show text, in a box.
-fn opened(
-    alloc: Global,
+/// A desk over a show text, in a box. `Memory` comes only where the heap refused some.
+fn opened<H: Heap>(
+    heap: &mut H,
     text: &[u8],
     form: Form,
     depth: Option<u32>,
 ) -> Result<Box<HostDesk, Global>, ShowFault>
     ensures opens { IfOk result (λ host. OpensDesk form depth text.now host.value) }
     ensures refuses { IfErr result (RefusesShow form text.now) }
+    ensures wanted { HasCauseOf ShowFault.Memory (H.refusals heap.old) (H.refusals heap.new) result }
 {
-    let desk = HostDesk::open(alloc, text, form, depth)?;
-    match Box::new(alloc, desk) {
+    let desk = HostDesk::open_in(heap, text, form, depth)?;
+    match heap.boxed(desk) {
         Ok(host) => Ok(host),
         Err(_) => Err(ShowFault::Memory),
     }
@@ -144,7 +149,7 @@ pub extern "C" fn cuedesk_close(alloc: Global, desk: &mut CueDesk)
 /// text. What fits of the reply is put into the front of `reply`, and `len` tells how long it is; `cuedesk_reply` gives the rest.
 ///
 /// OK: the line was done, and its whole reply fits. MORE: it was done, and its reply is longer. MEMORY: it was done, and memory was
-/// wanted for its reply. QUIT: the line is `quit`. CLOSED or NOT_A_LINE: nothing was done.
+/// refused for its reply. QUIT: the line is `quit`. CLOSED or NOT_A_LINE: nothing was done.
 #[unsafe(no_mangle)]
 pub extern "C" fn cuedesk_command(
     alloc: Global,

@@ -16,7 +16,7 @@ mod turn;
 
 pub use answers::Answers;
 pub use fault::SessionFault;
-pub use line::{answer, answer_in};
+pub use line::{answer, answer_in, answer_inlined};
 pub use listener::{Listener, NoListener};
 pub use quit::is_quit;
 pub use script::{

@@ -79,6 +79,35 @@ pub fn answer_in<L: Listener, H: Heap, K: Sink>(
     answer_any(listener, heap, console, line, sink, tally)
 }
 
+/// The same, for a caller that answers one line at a time: it pays for no further call where the line is no lone key.
+#[inline(always)]
+pub fn answer_inlined<L: Listener, H: Heap, K: Sink>(
+    listener: &mut L,
+    heap: &mut H,
+    console: &mut Console,
+    line: Option<&[u8]>,
+    sink: &mut K,
+    tally: &mut Tally,
+) -> Result<bool, SinkFault>
+    requires room { TallyHasRoom tally.old }
+    requires keeps { L.keeps listener.old console.old }
+    ensures keeps { L.keeps listener.new console.new }
+    ensures answered { FromDesk console.old tally.old
+        (λ s. SparedAnswer (IsAmple (L.admitted_all listener.new) (H.refusals heap.old) (H.refusals heap.new)) (L.admitted_all listener.new)
+        (L.heard listener.old listener.new) K.Sink sink.old sink.new result s
+        (meaning_of (option_copied line.entry)) console.new tally.new) }
+    ensures all { L.admitted_all listener.new ≡ true → L.admitted_all listener.old ≡ true }
+    ensures quit { IfOk result (λ more. more ≡ not (is_quit (meaning_of (option_copied line.entry)))) }
+    ensures cause { HasSinkCause K.Sink sink.old sink.new result }
+    ensures more { HasOneMore tally.old tally.new }
+    ensures later { H.refusals heap.old ≤ H.refusals heap.new }
+{
+    match read_lone_key(line) {
+        Some(key) => answer_key(listener, console, Key::Play(key), sink, tally),
+        None => read_and_answer(listener, heap, console, line, sink, tally),
+    }
+}
+
 /// The key that a line presses which is that key's word in small letters and nothing else. Of any other line it says nothing.
 #[inline(always)]
 fn read_lone_key(line: Option<&[u8]>) -> Option<PlayKey>
@@ -90,6 +119,32 @@ fn read_lone_key(line: Option<&[u8]>) -> Option<PlayKey>
 /// As `answer_in`, of any line. It is a function of its own, so that a lone key doesn't pay for the room of what a line means.
 #[inline(never)]
 fn answer_any<L: Listener, H: Heap, K: Sink>(
+    listener: &mut L,
+    heap: &mut H,
+    console: &mut Console,
+    line: Option<&[u8]>,
+    sink: &mut K,
+    tally: &mut Tally,
+) -> Result<bool, SinkFault>
+    requires room { TallyHasRoom tally.old }
+    requires keeps { L.keeps listener.old console.old }
+    ensures keeps { L.keeps listener.new console.new }
+    ensures answered { FromDesk console.old tally.old
+        (λ s. SparedAnswer (IsAmple (L.admitted_all listener.new) (H.refusals heap.old) (H.refusals heap.new)) (L.admitted_all listener.new)
+        (L.heard listener.old listener.new) K.Sink sink.old sink.new result s
+        (meaning_of (option_copied line.entry)) console.new tally.new) }
+    ensures all { L.admitted_all listener.new ≡ true → L.admitted_all listener.old ≡ true }
+    ensures quit { IfOk result (λ more. more ≡ not (is_quit (meaning_of (option_copied line.entry)))) }
+    ensures cause { HasSinkCause K.Sink sink.old sink.new result }
+    ensures more { HasOneMore tally.old tally.new }
+    ensures later { H.refusals heap.old ≤ H.refusals heap.new }
+{
+    read_and_answer(listener, heap, console, line, sink, tally)
+}
+
+/// As `answer_in`, of any line, in the place of its call.
+#[inline(always)]
+fn read_and_answer<L: Listener, H: Heap, K: Sink>(
     listener: &mut L,
     heap: &mut H,
     console: &mut Console,

@@ -9,7 +9,8 @@ returns-then-copied-clause-frame c = λ ok.
       taken = c.frame-copied.ensures.taken c.if-copied.true;
       others = c.frame-copied.ensures.others;
       engine = c.frame-copied.ensures.kept.0;
-      reply = c.frame-copied.ensures.kept.1;
+      reply = c.frame-copied.ensures.kept.1.0;
+      heap = c.frame-copied.ensures.kept.1.1;
     } in
     let now : c.of.result.handle.held ≡ Some c.frame-copied.new.self = search rules in
     subst (λ (h : Option HostDesk). ShowsFrame h c.args.universe c.frame-copied.new.out c.of.result.handle.held) (sym c.take-host.ensures.held)

@@ -1,13 +1,17 @@
 use Rattle.lx_host.proofs.Imports.{◌≡◌, ◌∙◌, sym, ap, subst, Form, form_of_flag, Refused}
-use Rattle.lx_host.proofs.Told.{refused_told, long_told}
+use Rattle.lx_host.proofs.Told.{refused_told, long_told, memory_told}
 use Rattle.lx_host.proofs.open_with.Goals as goal
 
 pub returns-in-Err-clause-refused : goal.returns-in-Err-clause-refused
-returns-in-Err-clause-refused c = λ refused.
+returns-in-Err-clause-refused g c = λ refused.
     subst (λ (f : Form). Refused f c.args.text.now c.told.new.report) c.form_for.ensures
     (refused_told c.form_for.result c.args.text.now c.in-Err.fault c.told.result c.told.new.report c.told.ensures.status refused
     c.told.ensures.report c.in-Err.ensures.refuses)
 
 pub returns-in-Err-clause-long : goal.returns-in-Err-clause-long
-returns-in-Err-clause-long c = λ long.
+returns-in-Err-clause-long g c = λ long.
     long_told c.form_for.result c.args.text.now c.in-Err.fault c.told.result c.told.ensures.status long c.in-Err.ensures.refuses
+
+pub returns-in-Err-clause-wanted : goal.returns-in-Err-clause-wanted
+returns-in-Err-clause-wanted g c = λ wanted.
+    c.opened.ensures.wanted.failed (memory_told c.in-Err.fault c.told.result c.told.ensures.status wanted)

@@ -1,11 +1,15 @@
 use Rattle.lx_embed.proofs.Imports.{refl, sym, begin_at, UndoStands}
+use Rattle.lx_session.specs.Spared.{spared}
 use Rattle.lx_spec.specs.UndoSession.{undo_answering}
-use Rattle.lx_embed.proofs.Lines.{line_answered, more_of}
+use Rattle.lx_embed.proofs.Lines.{line_answered, more_of, wanted}
 use Rattle.lx_embed.proofs.engine.answer_undo.Goals as goal
 
-pub returns : goal.returns
-returns c = λ s stands.
-    line_answered undo_answering (λ next. UndoStands next c.answer.new.self) s c.args.line.now c.args.reply.now c.answer.new.sink
-    c.answer.result c.answer.new.tally c.requires
-    (c.answer.ensures.answered (begin_at s) c.args.line.now stands (sym c.new-tally.ensures) refl)
-    (more_of c.args.line.now c.answer.result c.answer.ensures.quit)
+pub returns-clause-answered : goal.returns-clause-answered
+returns-clause-answered g c = λ ample stood s stands.
+    line_answered (spared ample undo_answering) (λ next. UndoStands next c.answer_in.new.self) s c.args.line.now c.args.reply.now
+    c.answer_in.new.sink c.answer_in.result c.answer_in.new.tally c.requires
+    (c.answer_in.ensures.answered ample stood (begin_at s) c.args.line.now stands (sym c.new-tally.ensures) refl)
+    (more_of c.args.line.now c.answer_in.result c.answer_in.ensures.quit)
+
+pub returns-clause-wanted : goal.returns-clause-wanted
+returns-clause-wanted g c = wanted c.args.reply.now c.answer_in.new.sink c.answer_in.result c.answer_in.ensures.cause

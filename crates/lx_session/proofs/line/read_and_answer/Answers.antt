@@ -2,7 +2,7 @@ use Rattle.lx_session.proofs.Imports.{rules, ◌≡◌, Some, option_copied, mea
 use Rattle.lx_spec.specs.declared.Command.TheVariants as commands
 use Rattle.lx_spec.specs.declared.Line.TheVariants as lines
 use Rattle.lx_session.proofs.AnsweredLines.{bad_line, frame_line}
-use Rattle.lx_session.proofs.line.answer_any.Goals as goal
+use Rattle.lx_session.proofs.line.read_and_answer.Goals as goal
 
 pub returns-in-None-clause-answered : goal.returns-in-None-clause-answered
 returns-in-None-clause-answered g c = λ s stands counted.
