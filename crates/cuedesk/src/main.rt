@@ -2,12 +2,15 @@
 //! and frames, or what there is to tell of the show, to standard output.
 #![tactic(auto)]
 
+use lx_crew::QueueHeap;
 use lx_desk::Status;
 use lx_io::{BufferedSink, Sink, StdSink, StdSource, SystemHeap};
 use lx_program::{
-    DeskPace, WordsFault, desk_crew, desk_in, desk_live, exit_of, files, scripts, words_of,
+    DeskPace, WordsFault, WordsHeap, desk_crew_in, desk_in, desk_live_in, exit_of, files, scripts,
+    words_of_in,
 };
 use lx_spec::{Job, ScriptKind};
+use lx_workers::WriterHeap;
 use std::alloc::Global;
 use std::io::IsTerminal;
 use std::process::ExitCode;
@@ -81,16 +84,29 @@ fn main(rt: HostRuntime) -> ExitCode {
     };
     let mut input = StdSource::new(rt.stdin());
     let mut output = BufferedSink::new(alloc, StdSink::new(rt.stdout()));
-    let status = match words_of(alloc, &words) {
+    let mut heap = SystemHeap::new(alloc);
+    let mut words_heap = WordsHeap::new(alloc);
+    let status = match words_of_in(&mut words_heap, &words) {
         Ok(Job::Crew(..)) => {
             let mut operators = scripts(&rt, alloc);
-            desk_crew(&rt, alloc, &words, &mut input, &mut output, &mut operators)
+            desk_crew_in(
+                &rt,
+                &mut heap,
+                &mut QueueHeap::new(alloc),
+                &mut words_heap,
+                &words,
+                &mut input,
+                &mut output,
+                &mut operators,
+            )
         }
         Ok(Job::Script(ScriptKind::Live(_), _)) => {
             let mut outlets = files(&rt, alloc);
-            desk_live(
+            desk_live_in(
                 &rt,
-                alloc,
+                &mut heap,
+                &mut WriterHeap::new(alloc),
+                &mut words_heap,
                 &words,
                 &mut input,
                 &mut output,
@@ -98,7 +114,7 @@ fn main(rt: HostRuntime) -> ExitCode {
                 &DeskPace::new(&rt),
             )
         }
-        Ok(_) => desk_in(&mut SystemHeap::new(alloc), &words, &mut input, &mut output),
+        Ok(_) => desk_in(&mut heap, &mut words_heap, &words, &mut input, &mut output),
         Err(WordsFault::Usage) => Status::Usage,
         Err(WordsFault::Memory) => Status::Memory,
     };

@@ -3,7 +3,7 @@ use Rattle.lx_desk.proofs.Imports.{◌≡◌, inl, inr, ℕ, ◌+◌, ◌≤◌,
 use Rattle.lx_desk.proofs.Imports.{◌∙◌, subst, INPUT_BYTES, Rose, AppendsFront, Lines, unread, first_lines-longer, Form, Crew, TextFault, lines_of}
 use Rattle.lx_desk.proofs.Imports.{over_show, fault_text, Reading, reads, lines_read, show_wanted, output_of, Loaded, ShowFault, reading_of, HasRead, Status}
 use Rattle.lx_desk.proofs.Imports.{WritesPrefix, RefusedBy, EndsJob, HasEnded, ServesOrWants, ServesNone, HasCrewEnded, WritesFirstLines, WritesCrewFront}
-use Rattle.lx_desk.proofs.Imports.{false, OperatorFailed, HasCrewCause, ToldBySource}
+use Rattle.lx_desk.proofs.Imports.{Bool, false, OperatorFailed, HasCrewCause, ToldBySource}
 use Rattle.lx_desk.specs.declared.desk.Status.TheVariants as status
 use Rattle.lx_desk.proofs.Inputs.{Says, IsOfShow, nothing_of_cut, means_of, told_fits, front_nothing, refusal_isnt_ok, if_known, both_known}
 use Rattle.lx_desk.proofs.Endings.{refusal_ends, refusal_ended}
@@ -40,12 +40,12 @@ module _ (form : Form) (count : ℕ) where
   }
 
   -- a crew over a show that was read
-  pub crew_ended : {I S : Type 0} (told_in : ToldBySource I) (told : ToldBySource S)
+  pub crew_ended : {I S : Type 0} (ample : Bool) (told_in : ToldBySource I) (told : ToldBySource S)
       (a b : Lines I) (loaded : Loaded) (o rest h h' : Option (List ℕ)) (operators operators' : List (Option S)) (s : Status)
       → unread told_in a ≡ o → a.taken ≡ 0 → HasRead told_in a b form loaded
-      → ServesOrWants told loaded.show count operators operators' h h' s
-      → IfSome o (λ x. HasCrewEnded told count form x rest operators operators' h h' s)
-  crew_ended told_in told a b loaded o rest h h' operators operators' s is none r served =
+      → ServesOrWants ample told loaded.show count operators operators' h h' s
+      → IfSome o (λ x. HasCrewEnded ample told count form x rest operators operators' h h' s)
+  crew_ended ample told_in told a b loaded o rest h h' operators operators' s is none r served =
       both_known o (λ x. reads form x ≡ Ok (reading_of loaded)) (λ x. length (show_wanted x) ≤ INPUT_BYTES) _
       (subst (λ (v : Option (List ℕ)). IfSome v (λ x. reads form x ≡ Ok (reading_of loaded))) is r.means.text)
       (told_fits form told_in a b loaded (Crew count form) (λ reading. []) crew_tells o is none r) (λ x read fits. elim served [
@@ -62,11 +62,11 @@ module _ (form : Form) (count : ℕ) where
       (λ x read. subst (λ r. WritesCrewFront told count operators h h' r) (sym read) front)
 
   -- a show that isn't read
-  pub refused_ended : {I S : Type 0} (told_in : ToldBySource I) (told : ToldBySource S) (a b : Lines I)
+  pub refused_ended : {I S : Type 0} (ample : Bool) (told_in : ToldBySource I) (told : ToldBySource S) (a b : Lines I)
       (o h h' : Option (List ℕ)) (operators : List (Option S)) (fault : ShowFault) (s : Status)
       → unread told_in a ≡ o → a.taken ≡ 0 → Says form told_in a b fault → RefusedBy h h' fault s
-      → IfSome o (λ x. HasCrewEnded told count form x (told_in.left b.source.now) operators operators h h' s)
-  refused_ended told_in told a b o h h' operators fault s is none says by =
+      → IfSome o (λ x. HasCrewEnded ample told count form x (told_in.left b.source.now) operators operators h h' s)
+  refused_ended ample told_in told a b o h h' operators fault s is none says by =
       if_known o _ _ (refusal_ended false form (Crew count form) (crew_tells.over) told_in a b o h h' fault s is none says by) (λ x e. inl (record {
         isnt_ok = λ ok. refusal_isnt_ok h h' fault s ⊥ by ok;
         isnt_live = λ live. subst EndsJob live (refusal_ends h h' fault s by);

@@ -4,7 +4,7 @@ use Rattle.lx_desk.proofs.Imports.{List, [], ◌∷◌, ◌++◌, length, take, 
 use Rattle.lx_desk.proofs.Imports.{length-append, length-drop, take-append-drop, AllByRecursion, position_or_len, same_Some, slice_get_within, SinkFault, Rose}
 use Rattle.lx_desk.proofs.Imports.{AppendsFront, lines_of, Show, opened, Kept, ends_script, lines_wanted, Tally, OperatorFault, EachAt, Status, IsLowest}
 use Rattle.lx_desk.proofs.Imports.{WritesTranscript, WritesLines, Serves, WritesFirstLines, KeepsPlaces, OperatorFailed, TellsOperators, TellsCrew, Finishes}
-use Rattle.lx_desk.proofs.Imports.{HasWanted, ToldBySink, ToldBySource}
+use Rattle.lx_desk.proofs.Imports.{Bool, HasWanted, WantsCrew, WantsMemory, ToldBySink, ToldBySource}
 use Rattle.lx_io.specs.declared.sink.SinkFault.TheVariants as sinks
 use Rattle.lx_spec.specs.CrewText.{lines_up_to_quit, numbered_from, crew_text}
 use Rattle.lx_crew.specs.declared.fault.OperatorFault.TheVariants as ends
@@ -14,7 +14,7 @@ use Rattle.lx_crew.specs.Transcripts.{WholeTranscript, TranscriptPrefix}
 use Rattle.lx_crew.specs.EngineAnswers.{OutputCause}
 use Rattle.lx_desk.specs.declared.desk.Status.TheVariants as status
 use Rattle.lx_desk.proofs.Inputs.{whole_front, front_nothing}
-use Rattle.lx_desk.proofs.Finishing.{all_done, not_done}
+use Rattle.lx_desk.proofs.Finishing.{all_done, not_done, rose_since}
 use Rattle.lx_desk.proofs.LiveRuns.{get_take, get_before}
 
 -- a read that failed is that of the lowest operator with a fault
@@ -66,28 +66,29 @@ joined count operators used used' rest same is behind =
     ap (λ l. l ++ rest) (same ∙ is) ∙ (ap (λ l. take count operators ++ l) behind ∙ take-append-drop count operators)
 
 -- what the crew wrote, by the status
-transcript : (show : Show) (lines : ℕ → List (List ℕ)) (held held' : Option (List ℕ)) (console : Kept) (tally : Tally)
-    → WholeTranscript (opened show) lines held held' console tally → WritesTranscript show lines held held'
-transcript show lines held held' console tally w =
+transcript : (ample : Bool) (show : Show) (lines : ℕ → List (List ℕ)) (held held' : Option (List ℕ)) (console : Kept) (tally : Tally)
+    → WholeTranscript ample (opened show) lines held held' console tally → WritesTranscript ample show lines held held'
+transcript ample show lines held held' console tally w =
     record { entries = w.entries; merged = w.merged; failures = w.failures; allows = w.allows; text = w.text }
 
-written_by : (show : Show) (lines : ℕ → List (List ℕ)) (held held' : Option (List ℕ)) (console : Kept) (tally : Tally)
+written_by : (ample : Bool) (show : Show) (lines : ℕ → List (List ℕ)) (held held' : Option (List ℕ)) (console : Kept) (tally : Tally)
     (output : Option SinkFault) (told : List (Option OperatorFault)) (s : Status)
-    → HasWrittenTranscript (opened show) lines held held' console tally output → TellsCrew output told s → WritesLines s show lines told held held'
-written_by show lines held held' console tally None told status.Ok w tells = (transcript show lines held held' console tally w, tells)
-written_by show lines held held' console tally None told status.ReadFault w tells =
-    (transcript show lines held held' console tally w, tells)
-written_by show lines held held' console tally None told status.InputTooLong w tells =
-    (transcript show lines held held' console tally w, tells)
-written_by show lines held held' console tally None told status.WriteFault w tells = absurd tells
-written_by show lines held held' console tally None told status.Memory w tells = absurd tells
-written_by show lines held held' console tally None told status.ShowRefused w tells = absurd tells
-written_by show lines held held' console tally None told status.Usage w tells = absurd tells
-written_by show lines held held' console tally None told status.Live w tells = absurd tells
-written_by show lines held held' console tally (Some sinks.Failed) told s w tells =
-    subst (λ (t : Status). WritesLines t show lines told held held') (sym tells) w
-written_by show lines held held' console tally (Some sinks.Memory) told s w tells =
-    subst (λ (t : Status). WritesLines t show lines told held held') (sym tells) w
+    → HasWrittenTranscript ample (opened show) lines held held' console tally output → TellsCrew output told s
+    → WritesLines ample s show lines told held held'
+written_by ample show lines held held' console tally None told status.Ok w tells = (transcript ample show lines held held' console tally w, tells)
+written_by ample show lines held held' console tally None told status.ReadFault w tells =
+    (transcript ample show lines held held' console tally w, tells)
+written_by ample show lines held held' console tally None told status.InputTooLong w tells =
+    (transcript ample show lines held held' console tally w, tells)
+written_by ample show lines held held' console tally None told status.WriteFault w tells = absurd tells
+written_by ample show lines held held' console tally None told status.Memory w tells = absurd tells
+written_by ample show lines held held' console tally None told status.ShowRefused w tells = absurd tells
+written_by ample show lines held held' console tally None told status.Usage w tells = absurd tells
+written_by ample show lines held held' console tally None told status.Live w tells = absurd tells
+written_by ample show lines held held' console tally (Some sinks.Failed) told s w tells =
+    subst (λ (t : Status). WritesLines ample t show lines told held held') (sym tells) w
+written_by ample show lines held held' console tally (Some sinks.Memory) told s w tells =
+    subst (λ (t : Status). WritesLines ample t show lines told held held') (sym tells) w
 
 -- an operator whose read failed
 read_rose : {S : Type 0} (told_in : ToldBySource S) (places : List (Option S)) (told : List (Option OperatorFault))
@@ -96,10 +97,10 @@ read_rose : {S : Type 0} (told_in : ToldBySource S) (places : List (Option S)) (
 read_rose told_in places told place start lines b at = b.ended.failed (same_Some b.fault (Some ends.ReadFault) (sym b.fault_is ∙ at))
 
 -- A crew over the first n operators.
-module _ {S K : Type 0} (told_in : ToldBySource S) (told_out : ToldBySink K) (show : Show) (count : ℕ)
+module _ {S K : Type 0} (ample : Bool) (told_in : ToldBySource S) (told_out : ToldBySink K) (show : Show) (count : ℕ)
     (operators used used' rest : List (Option S)) (sink sink' : K) (console : Kept) (tally : Tally) (output : Option SinkFault)
     (told : List (Option OperatorFault)) (is : used ≡ take count operators) (n : length used ≡ count) (behind : rest ≡ drop count operators)
-    (h : HasCrewed told_in told_out (opened show) used used' sink sink' console tally output told) where
+    (h : HasCrewed ample told_in told_out (opened show) used used' sink sink' console tally output told) where
   same_count : length used' ≡ count
   same_count = h.same_places ∙ n
 
@@ -116,14 +117,14 @@ module _ {S K : Type 0} (told_in : ToldBySource S) (told_out : ToldBySink K) (sh
       }
 
   pub serves : (s : Status) → TellsCrew output told s
-      → Serves told_in show count operators (used' ++ rest) (told_out.holds sink) (told_out.holds sink') s
+      → Serves ample told_in show count operators (used' ++ rest) (told_out.holds sink) (told_out.holds sink') s
   serves s tells = record {
     lines = h.lines;
     told = told;
     each = back;
     none = h.none;
     no_more = λ operator past. h.no_more operator (omega (arith, past, n));
-    written = written_by show h.lines (told_out.holds sink) (told_out.holds sink') console tally output told s h.written tells;
+    written = written_by ample show h.lines (told_out.holds sink) (told_out.holds sink') console tally output told s h.written tells;
   }
 
   full_used : EachAt (λ k source. IsSome source) used → EachAt (λ k source. IsSome source) used'
@@ -203,8 +204,8 @@ ended_front told start source fault lines bytes ended known =
 -- However a crew ended, it wrote a prefix of the text of first lines.
 module _ {S : Type 0} (told : ToldBySource S) (show : Show) (count : ℕ) (operators operators' : List (Option S))
     (held held' : Option (List ℕ)) where
-  all_front : (s : Status) → (h : Serves told show count operators operators' held held' s)
-      → WritesTranscript show h.lines held held' → WritesFirstLines told show count operators held held'
+  all_front : (s : Status) → (h : Serves false told show count operators operators' held held' s)
+      → WritesTranscript false show h.lines held held' → WritesFirstLines told show count operators held held'
   all_front s h w = record {
     entries = w.entries;
     each = λ place start bytes within at known.
@@ -218,8 +219,8 @@ module _ {S : Type 0} (told : ToldBySource S) (show : Show) (count : ℕ) (opera
     text = whole_front held held' (crew_text (opened show) w.entries w.failures) w.text;
   }
 
-  some_front : (s : Status) → (h : Serves told show count operators operators' held held' s)
-      → TranscriptPrefix (opened show) h.lines held held' → WritesFirstLines told show count operators held held'
+  some_front : (s : Status) → (h : Serves false told show count operators operators' held held' s)
+      → TranscriptPrefix false (opened show) h.lines held held' → WritesFirstLines told show count operators held held'
   some_front s h w = record {
     entries = w.entries;
     each = λ place start bytes within at known.
@@ -238,7 +239,7 @@ module _ {S : Type 0} (told : ToldBySource S) (show : Show) (count : ℕ) (opera
     text = w.text;
   }
 
-  pub served_front : (s : Status) → Serves told show count operators operators' held held' s
+  pub served_front : (s : Status) → Serves false told show count operators operators' held held' s
       → WritesFirstLines told show count operators held held'
   served_front status.Ok h = all_front status.Ok h h.written.0
   served_front status.ReadFault h = all_front status.ReadFault h h.written.0
@@ -263,7 +264,7 @@ no_lines told show count operators held held' kept = record {
       (front_nothing held (crew_text (opened show) [] []));
 }
 
--- what a crew's status says of the output
+-- What a crew's status says of the output.
 pub crew_finishes : {K : Type 0} (reads : ℕ) (told_out : ToldBySink K) (sink sink' : K) (output : Option SinkFault)
     (told : List (Option OperatorFault)) (s : Status) → TellsCrew output told s → OutputCause told_out sink sink' None output
     → (output ≡ None → told_out.back sink' ≡ []) → Finishes reads reads told_out sink sink' s
@@ -282,6 +283,35 @@ pub crew_wants : {K : Type 0} (told_out : ToldBySink K) (sink sink' : K) (output
 crew_wants told_out sink sink' None told s tells c is = absurd (subst (λ (t : Status). TellsOperators told t) is tells)
 crew_wants told_out sink sink' (Some sinks.Failed) told s tells c is = let odd : status.WriteFault ≡ status.Memory = sym tells ∙ is in cc
 crew_wants told_out sink sink' (Some sinks.Memory) told s tells c is = elim (c.memory refl) [ inl odd ↦ cc | inr rose ↦ inr rose ]
+
+-- what wanted memory of one heap or of the output did so of the two heaps and the output
+pub as_crew : {K : Type 0} (told : ToldBySink K) (before after queues queues' : ℕ) (output output' : K) (s : Status)
+    → WantsMemory told before after output output' s → WantsCrew told before after queues queues' output output' s
+as_crew told before after queues queues' output output' s wanted = λ is. elim (wanted is) [
+  | inl refused ↦ inl (inl refused)
+  | inr sink ↦ inr sink
+]
+
+-- and what did so by the last calls of a heap did so by all
+pub crew_since : {K : Type 0} (told : ToldBySink K) (first before after queues queues' : ℕ) (output output' : K) (s : Status) → first ≤ before
+    → WantsCrew told before after queues queues' output output' s → WantsCrew told first after queues queues' output output' s
+crew_since told first before after queues queues' output output' s held wanted = λ is. elim (wanted is) [
+  | inl heaps ↦ elim heaps [
+    | inl refused ↦ inl (inl (rose_since first before after held refused))
+    | inr queue ↦ inl (inr queue)
+  ]
+  | inr sink ↦ inr sink
+]
+
+pub crew_wanted : {K : Type 0} (told_out : ToldBySink K) (before after queues queues' : ℕ) (sink sink' : K) (output : Option SinkFault)
+    (told : List (Option OperatorFault)) (s : Status) → TellsCrew output told s → OutputCause told_out sink sink' None output
+    → WantsCrew told_out before after queues queues' sink sink' s
+crew_wanted told_out before after queues queues' sink sink' None told s tells c is =
+    absurd (subst (λ (t : Status). TellsOperators told t) is tells)
+crew_wanted told_out before after queues queues' sink sink' (Some sinks.Failed) told s tells c is =
+    let odd : status.WriteFault ≡ status.Memory = sym tells ∙ is in cc
+crew_wanted told_out before after queues queues' sink sink' (Some sinks.Memory) told s tells c is =
+    elim (c.memory refl) [ inl odd ↦ cc | inr rose ↦ inr rose ]
 
 pub crew_not_live : (output : Option SinkFault) (told : List (Option OperatorFault)) (s : Status) → TellsCrew output told s → s ≢ status.Live
 crew_not_live None told s tells is = subst (λ (t : Status). TellsOperators told t) is tells

@@ -37,7 +37,7 @@ after_reads reads reads' reads'' told output output' s before f = record {
   handed_on = f.handed_on;
 }
 
-rose_since : (first before after : ℕ) → first ≤ before → Rose before after → Rose first after
+pub rose_since : (first before after : ℕ) → first ≤ before → Rose before after → Rose first after
 rose_since first before after held rose = omega (arith, held, rose)
 
 -- a session

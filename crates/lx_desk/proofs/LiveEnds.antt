@@ -1,5 +1,5 @@
 -- How a live run ended, from its show and its script.
-use Rattle.lx_desk.proofs.Imports.{◌≡◌, ◌≢◌, ◌⊎◌, inl, inr, true, false, ℕ, ◌+◌, ◌-◌, ◌≤◌, Option, Some, None, Result, Ok}
+use Rattle.lx_desk.proofs.Imports.{◌≡◌, ◌≢◌, ◌⊎◌, inl, inr, Bool, true, false, ℕ, ◌+◌, ◌-◌, ◌≤◌, Option, Some, None, Result, Ok}
 use Rattle.lx_desk.proofs.Imports.{Err, IsOk, IfSome, List, [], ◌∷◌, ◌++◌, length, take, refl, sym, ap, ◌∙◌, subst, arith, append_assoc}
 use Rattle.lx_desk.proofs.Imports.{length-append, Appends, INPUT_BYTES, SinkFault, Rose, AppendsFront, Lines, LinesBetween, unread, first_lines-more, Form}
 use Rattle.lx_desk.proofs.Imports.{TextFault, desk_lawful, front_of_whole, Script, Live, lines_of, opened, HasNoFeed, first_lines, over_show, Reading, reads}
@@ -14,21 +14,21 @@ use Rattle.lx_desk.proofs.Inputs.{if_both, fed_behind, wanted_read, script_over}
 use Rattle.lx_desk.proofs.AnyFailures.{each_allowed}
 use Rattle.lx_desk.proofs.Endings.{refusal_ends, refusal_ended}
 
--- Of a show whose levels are read in this form, for this many universes.
-module _ (form : Form) (universes : ℕ) where
+-- Of a show whose levels are read in this form, for this many universes, in a run whose memory was ample, or may not have been.
+module _ (ample : Bool) (form : Form) (universes : ℕ) where
   live_allows : (x : List ℕ) (failures : List (Option ℕ)) (r : Result Reading TextFault) → ScriptAllows (Live universes) x failures r
   live_allows x failures (Ok reading) = each_allowed failures (begin_at (begun (opened reading.show))) (answered_lines (script_of x))
   live_allows x failures (Err fault) = tt
 
   whole_at : {K : Type 0} (told : ToldBySink K) (x y : List ℕ) (reading : Reading) (h h' : Option (List ℕ))
       (outlets outlets' : List (Option K)) → reads form x ≡ Ok reading → script_of x ≡ lines_of y
-      → length (input_wanted form x) ≤ INPUT_BYTES → PlaysScript told reading.show universes (lines_of y) h h' outlets outlets'
-      → PlaysWhole told universes form x h h' outlets outlets'
+      → length (input_wanted form x) ≤ INPUT_BYTES → PlaysScript ample told reading.show universes (lines_of y) h h' outlets outlets'
+      → PlaysWhole ample told universes form x h h' outlets outlets'
   whole_at told x y reading h h' outlets outlets' read script fits a = record {
     reading = reading;
     read = read;
     failures = a.failures;
-    allows = subst (λ (ls : List (List ℕ)). LiveAllows reading.show ls a.failures (live_session reading.show ls a.failures).state.accepted)
+    allows = subst (λ (ls : List (List ℕ)). LiveAllows ample reading.show ls a.failures (live_session reading.show ls a.failures).state.accepted)
         (sym script) a.allows;
     text = subst (λ (ls : List (List ℕ)). Appends h h' (live_session reading.show ls a.failures).text) (sym script) a.text;
     versions = subst (λ (ls : List (List ℕ)). HaveVersions told reading.show universes outlets outlets'
@@ -38,11 +38,11 @@ module _ (form : Form) (universes : ℕ) where
 
   prefix_at : {K : Type 0} (told : ToldBySink K) (x y : List ℕ) (reading : Reading) (h h' : Option (List ℕ))
       (outlets outlets' : List (Option K)) → reads form x ≡ Ok reading → script_of x ≡ lines_of y
-      → PlaysInFront told reading.show universes (lines_of y) h h' outlets outlets'
-      → WritesPrefix (Script (Live universes) form) x h h' × LivesInFront told universes form x h h' outlets outlets'
+      → PlaysInFront ample told reading.show universes (lines_of y) h h' outlets outlets'
+      → WritesPrefix (Script (Live universes) form) x h h' × LivesInFront ample told universes form x h h' outlets outlets'
   prefix_at told x y reading h h' outlets outlets' read script a =
-      let plays : PlaysInFront told reading.show universes (script_of x) h h' outlets outlets' =
-      subst (λ (ls : List (List ℕ)). PlaysInFront told reading.show universes ls h h' outlets outlets') (sym script) a in
+      let plays : PlaysInFront ample told reading.show universes (script_of x) h h' outlets outlets' =
+      subst (λ (ls : List (List ℕ)). PlaysInFront ample told reading.show universes ls h h' outlets outlets') (sym script) a in
       let front = front_of_whole (desk_answering false) (desk_lawful false) (begun (opened reading.show)) (script_of x) plays.failures
       plays.lines h h' plays.text in (
         record {
@@ -58,7 +58,7 @@ module _ (form : Form) (universes : ℕ) where
       (outlets outlets' : List (Option K)) (i j : ℕ) (raws : List (List ℕ)) (reading : Reading) → i ≡ 0
       → LinesBetween (Some x) (Some y) i j raws
       → lines_read (lines_of x) ≡ length raws → reads form x ≡ Ok reading → script_of x ≡ lines_of y
-      → PlaysTaken told reading.show universes j y left h h' outlets outlets' → LivesTaken told universes form x left h h' outlets outlets'
+      → PlaysTaken ample told reading.show universes j y left h h' outlets outlets' → LivesTaken ample told universes form x left h h' outlets outlets'
   taken_at told x y left h h' outlets outlets' i j raws reading none took shown text script a =
       let n = a.cut.lines in
       let mine : took.bytes ≡ first_lines (length raws) (took.bytes ++ y) = took.front ∙ ap (first_lines (length raws)) took.took in
@@ -87,9 +87,9 @@ module _ (form : Form) (universes : ℕ) where
             let s = ap lines_wanted script in
             let m = a.short in
             omega (arith, s, m, shown);
-        allows = subst (λ (k : ℕ). LiveAllows reading.show (script_of x) a.failures
+        allows = subst (λ (k : ℕ). LiveAllows ample reading.show (script_of x) a.failures
             (live_after reading.show (script_of x) a.failures k).state.accepted) done
-            (subst (λ (ls : List (List ℕ)). LiveAllows reading.show ls a.failures
+            (subst (λ (ls : List (List ℕ)). LiveAllows ample reading.show ls a.failures
             (live_after reading.show ls a.failures n).state.accepted) (sym script) a.allows);
         text = subst (λ (k : ℕ). Appends h h' (live_after reading.show (script_of x) a.failures k).text) done
             (subst (λ (ls : List (List ℕ)). Appends h h' (live_after reading.show ls a.failures n).text) (sym script) a.text);
@@ -101,7 +101,7 @@ module _ (form : Form) (universes : ℕ) where
 
   -- the same, as it is told of a job
   as_taken : {K : Type 0} (told : ToldBySink K) (x : List ℕ) (left h h' : Option (List ℕ)) (outlets outlets' : List (Option K))
-      → LivesTaken told universes form x left h h' outlets outlets' → RepliesToTaken false (Script (Live universes) form) x left h h'
+      → LivesTaken ample told universes form x left h h' outlets outlets' → RepliesToTaken false (Script (Live universes) form) x left h h'
   as_taken told x left h h' outlets outlets' a = record {
     failures = a.failures;
     allows = live_allows x a.failures (reads form x);
@@ -125,35 +125,35 @@ module _ (form : Form) (universes : ℕ) where
   pub live_ended : {S K : Type 0} (told_in : ToldBySource S) (told : ToldBySink K)
       (a b : Lines S) (loaded : Loaded) (o rest h h' : Option (List ℕ)) (outlets outlets' : List (Option K)) (s : Status)
       → unread told_in a ≡ o → a.taken ≡ 0 → HasRead told_in a b form loaded
-      → IfSome (unread told_in b) (λ y. HasPlayedLive s told loaded.show universes b.taken y rest h h' outlets outlets')
-      → IfSome o (λ x. HasLived s told universes form x rest h h' outlets outlets')
+      → IfSome (unread told_in b) (λ y. HasPlayedLive ample s told loaded.show universes b.taken y rest h h' outlets outlets')
+      → IfSome o (λ x. HasLived ample s told universes form x rest h h' outlets outlets')
   live_ended told_in told a b loaded o rest h h' outlets outlets' status.Ok is none r p =
       both_known o _ _ _ (session_fits form told_in a b loaded o is none r (if_known (unread told_in b) _ _ p (λ y q. q.1)))
-      (over_loaded form told_in a b loaded o (λ y. PlaysScript told loaded.show universes (lines_of y) h h' outlets outlets')
-      (λ x. length (input_wanted form x) ≤ INPUT_BYTES → PlaysWhole told universes form x h h' outlets outlets') is r
+      (over_loaded form told_in a b loaded o (λ y. PlaysScript ample told loaded.show universes (lines_of y) h h' outlets outlets')
+      (λ x. length (input_wanted form x) ≤ INPUT_BYTES → PlaysWhole ample told universes form x h h' outlets outlets') is r
       (if_known (unread told_in b) _ _ p (λ y q. q.0))
       (λ x y raws took shown text script q fits. whole_at told x y (reading_of loaded) h h' outlets outlets' text script fits q))
       (λ x fits f. f fits)
   live_ended told_in told a b loaded o rest h h' outlets outlets' status.ReadFault is none r p =
-      over_loaded form told_in a b loaded o (λ y. PlaysTaken told loaded.show universes b.taken y rest h h' outlets outlets') _ is r p
+      over_loaded form told_in a b loaded o (λ y. PlaysTaken ample told loaded.show universes b.taken y rest h h' outlets outlets') _ is r p
       (λ x y raws took shown text script q.
       let taken = taken_at told x y rest h h' outlets outlets' a.taken b.taken raws (reading_of loaded) none took shown text
       script q in
       (as_taken told x rest h h' outlets outlets' taken, inr taken))
   live_ended told_in told a b loaded o rest h h' outlets outlets' status.InputTooLong is none r p =
-      both_known o _ _ _ (over_loaded form told_in a b loaded o (λ y. PlaysTaken told loaded.show universes b.taken y rest h h' outlets
-      outlets') (λ x. LivesTaken told universes form x rest h h' outlets outlets') is r (if_known (unread told_in b) _ _ p (λ y q. q.0))
+      both_known o _ _ _ (over_loaded form told_in a b loaded o (λ y. PlaysTaken ample told loaded.show universes b.taken y rest h h' outlets
+      outlets') (λ x. LivesTaken ample told universes form x rest h h' outlets outlets') is r (if_known (unread told_in b) _ _ p (λ y q. q.0))
       (λ x y raws took shown text script q. taken_at told x y rest h h' outlets outlets' a.taken b.taken raws
       (reading_of loaded) none took shown text script q))
       (session_long form told_in a b loaded o is none r (if_known (unread told_in b) _ _ p (λ y q. q.1)))
       (λ x taken long. ((as_taken told x rest h h' outlets outlets' taken, long), inr taken))
   live_ended told_in told a b loaded o rest h h' outlets outlets' status.WriteFault is none r p =
-      over_loaded form told_in a b loaded o (λ y. PlaysInFront told loaded.show universes (lines_of y) h h' outlets outlets') _ is r p
+      over_loaded form told_in a b loaded o (λ y. PlaysInFront ample told loaded.show universes (lines_of y) h h' outlets outlets') _ is r p
       (λ x y raws took shown text script q. let w =
       prefix_at told x y (reading_of loaded) h h' outlets outlets' text script q in (w.0, inr w.1))
   live_ended told_in told a b loaded o rest h h' outlets outlets' status.Memory is none r p =
       over_loaded form told_in a b loaded o (λ y. ((h' ≡ h) × (outlets' ≡ outlets))
-      ⊎ PlaysInFront told loaded.show universes (lines_of y) h h' outlets outlets') _ is r p (λ x y raws took shown text script q. elim q [
+      ⊎ PlaysInFront ample told loaded.show universes (lines_of y) h h' outlets outlets') _ is r p (λ x y raws took shown text script q. elim q [
         | inl kept ↦ (nothing_lived x h h' kept.0, inl (kept.1, λ ok. kept.0))
         | inr plays ↦ let w = prefix_at told x y (reading_of loaded) h h' outlets outlets' text script plays in
             (w.0, inr w.1)
@@ -168,7 +168,7 @@ module _ (form : Form) (universes : ℕ) where
   refused_at : {K : Type 0} (told : ToldBySink K) (x : List ℕ) (rest h h' : Option (List ℕ))
       (outlets : List (Option K)) (fault : ShowFault) (s : Status)
       → RefusedBy h h' fault s → HasEnded s (Script (Live universes) form) x rest h h' → (IsOk (reads form x) → h' ≡ h)
-      → HasLived s told universes form x rest h h' outlets outlets
+      → HasLived ample s told universes form x rest h h' outlets outlets
   refused_at told x rest h h' outlets fault status.Ok by e none = refusal_isnt_ok h h' fault status.Ok _ by refl
   refused_at told x rest h h' outlets fault status.ShowRefused by e none = (e, refl)
   refused_at told x rest h h' outlets fault status.Usage by e none = absurd e
@@ -199,21 +199,21 @@ module _ (form : Form) (universes : ℕ) where
   pub refused_lived : {S K : Type 0} (told_in : ToldBySource S) (told : ToldBySink K) (a b : Lines S)
       (o h h' : Option (List ℕ)) (outlets : List (Option K)) (fault : ShowFault) (s : Status)
       → unread told_in a ≡ o → a.taken ≡ 0 → Says form told_in a b fault → RefusedBy h h' fault s
-      → IfSome o (λ x. HasLived s told universes form x (told_in.left b.source.now) h h' outlets outlets)
+      → IfSome o (λ x. HasLived ample s told universes form x (told_in.left b.source.now) h h' outlets outlets)
   refused_lived told_in told a b o h h' outlets fault s is none says by =
       both_known o _ _ _ (refusal_ended false form (Script (Live universes) form) (script_over form (Live universes)) told_in a b o h h' fault s is none says by)
       (unanswered told_in a b o h h' fault s is says by)
       (λ x e unread. refused_at told x (told_in.left b.source.now) h h' outlets fault s by e unread)
 
 -- In which order the faults of a live run are told, over a show that was read.
-module _ (form : Form) (universes : ℕ) {O K : Type 0} (told : ToldBySink K)
+module _ (ample : Bool) (form : Form) (universes : ℕ) {O K : Type 0} (told : ToldBySink K)
     (told_out : ToldBySink O) (output output' : O) (h h' : Option (List ℕ)) (outlets outlets' : List (Option K)) where
   abbrev ToEnd : Show → List ℕ → ℕ → (List (Option SinkFault) → ℕ → Type 0) → Type 0
-  ToEnd show bytes before Told = PlaysToEnd Told told show universes (lines_of bytes) h h' outlets outlets'
+  ToEnd show bytes before Told = PlaysToEnd ample Told told show universes (lines_of bytes) h h' outlets outlets'
       × (before + length (bytes_wanted bytes) ≤ INPUT_BYTES)
 
   abbrev LivesTo : List ℕ → (List (Option SinkFault) → ℕ → Type 0) → Type 0
-  LivesTo x Told = LivesToEnd Told told universes form x h h' outlets outlets'
+  LivesTo x Told = LivesToEnd ample Told told universes form x h h' outlets outlets'
 
   lives_to : (Told : List (Option SinkFault) → ℕ → Type 0) (x y : List ℕ) (i j : ℕ) (raws : List (List ℕ)) (reading : Reading) → i ≡ 0
       → LinesBetween (Some x) (Some y) i j raws → lines_read (lines_of x) ≡ length raws → reads form x ≡ Ok reading
@@ -221,7 +221,7 @@ module _ (form : Form) (universes : ℕ) {O K : Type 0} (told : ToldBySink K)
   lives_to Told x y i j raws reading none took shown read script p = record {
     reading = reading;
     read = read;
-    plays = subst (λ (ls : List (List ℕ)). PlaysToEnd Told told reading.show universes ls h h' outlets outlets') (sym script) p.0;
+    plays = subst (λ (ls : List (List ℕ)). PlaysToEnd ample Told told reading.show universes ls h h' outlets outlets') (sym script) p.0;
     within = let w = p.1 in omega (arith, wanted_read form x y i j raws reading none took shown read script, w);
   }
 

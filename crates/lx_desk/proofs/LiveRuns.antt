@@ -7,12 +7,16 @@ use Rattle.lx_desk.proofs.Imports.{StandsFor, SessionFault, Tally, HasDone, Answ
 use Rattle.lx_desk.proofs.Imports.{HasSessionCause, IsFull, Status, status_for, HasCauseOf, live_session, LiveAllows, HaveVersions, PlaysScript, HaveGot}
 use Rattle.lx_desk.proofs.Imports.{AreServed, PlaysInFront, PlaysTaken, HasPlayedLive, ArePlayed, OutletFailed, PlaysToEnd, LacksMemory, HasFailedOutlet}
 use Rattle.lx_desk.proofs.Imports.{DecidesInOrder, Finishes, HasLiveCause, TellsOutlets, TellsRun, Appends, AppendsFront, ToldBySink, ToldBySource}
+use Rattle.std.specs.Prelude.{◌&&◌}
+use Rattle.lx_desk.proofs.Imports.{Rose, HasStood, OutletWanted, WantsLive, WantsMemory}
+use Rattle.std.proofs.lemmas.Bool.{cases_lt}
+use Rattle.lx_io.specs.Causes.{one_more}
 use Rattle.lx_io.specs.declared.sink.SinkFault.TheVariants as sinks
 use Rattle.lx_session.specs.declared.fault.SessionFault.TheVariants as faults
-use Rattle.lx_workers.specs.Engines.{leaves_room}
+use Rattle.lx_workers.specs.Engines.{engine_answering, leaves_room}
 use Rattle.lx_workers.specs.LiveOutcome.{AreDelivered}
 use Rattle.lx_desk.specs.declared.desk.Status.TheVariants as status
-use Rattle.lx_desk.proofs.Finishing.{all_done, session_finishes}
+use Rattle.lx_desk.proofs.Finishing.{all_done, rose_since, session_finishes, session_wanted}
 use Rattle.lx_desk.proofs.AnyFailures.{alike}
 use Rattle.lx_desk.proofs.Inputs.{whole_front, both_known}
 
@@ -82,51 +86,53 @@ abbrev Done : Show → (published unsent : List Command) → Kept → DeskState 
 Done show published unsent console = HasDone (λ commands. commands ≡ published ++ unsent) (opened show) console
 
 -- how an engine answers after which these commands are published, and then unsent
-abbrev engine_answering : (published unsent : List Command) → Answering (List ℕ)
-engine_answering published unsent = desk_answering (leaves_room (published ++ unsent))
+abbrev engine_of : (ample : Bool) → (published unsent : List Command) → Answering (List ℕ)
+engine_of ample published unsent = engine_answering ample (published ++ unsent)
 
-abbrev HasAnswered : Show → (published unsent : List Command) → Kept → ℕ → List ℕ → (unread left held held' : Option (List ℕ))
+abbrev HasAnswered : (ample : Bool) → Show → (published unsent : List Command) → Kept → ℕ → List ℕ → (unread left held held' : Option (List ℕ))
     → Result Tally SessionFault → Type 0
-HasAnswered show published unsent console =
-    ScriptAnswered (engine_answering published unsent) (Done show published unsent console) (begun (opened show))
+HasAnswered ample show published unsent console =
+    ScriptAnswered (engine_of ample published unsent) (Done show published unsent console) (begun (opened show))
 
 -- these lines, answered by an engine, and so as the records of a live run tell it
-abbrev engine_over : (published unsent : List Command) → Show → List (Option ℕ) → List (List ℕ) → Session DeskState
-engine_over published unsent show failures lines = after_each (engine_answering published unsent) failures (begin_at (begun (opened show))) lines
+abbrev engine_over : (ample : Bool) → (published unsent : List Command) → Show → List (Option ℕ) → List (List ℕ) → Session DeskState
+engine_over ample published unsent show failures lines = after_each (engine_of ample published unsent) failures (begin_at (begun (opened show))) lines
 
 abbrev live_over : Show → List (Option ℕ) → List (List ℕ) → Session DeskState
 live_over show failures lines = after_each (desk_answering false) failures (begin_at (begun (opened show))) lines
 
 -- The two are the same, and so are their commands and where attempts failed.
-record IsLive (show : Show) (published unsent : List Command) (script lines : List (List ℕ)) (failures : List (Option ℕ)) : Type 0 where
-  same : engine_over published unsent show failures lines ≡ live_over show failures lines
+record IsLive (ample : Bool) (show : Show) (published unsent : List Command) (script lines : List (List ℕ)) (failures : List (Option ℕ))
+    : Type 0 where
+  same : engine_over ample published unsent show failures lines ≡ live_over show failures lines
   accepted : (live_over show failures lines).state.accepted ≡ published ++ unsent
-  allows : LiveAllows show script failures (live_over show failures lines).state.accepted
+  allows : LiveAllows ample show script failures (live_over show failures lines).state.accepted
 
-is_live : (show : Show) (published unsent : List Command) (console : Kept) (script lines : List (List ℕ)) (failures : List (Option ℕ))
-    → Allows (engine_answering published unsent) (begun (opened show)) script failures
-    → Done show published unsent console (engine_over published unsent show failures lines).state
-    → IsLive show published unsent script lines failures
-is_live show published unsent console script lines failures allows done =
-    let same = alike (leaves_room (published ++ unsent)) failures (begin_at (begun (opened show))) lines in
+is_live : (ample : Bool) (show : Show) (published unsent : List Command) (console : Kept) (script lines : List (List ℕ))
+    (failures : List (Option ℕ)) → Allows (engine_of ample published unsent) (begun (opened show)) script failures
+    → Done show published unsent console (engine_over ample published unsent show failures lines).state
+    → IsLive ample show published unsent script lines failures
+is_live ample show published unsent console script lines failures allows done =
+    let room = leaves_room (published ++ unsent) in
+    let same = alike (ample && room) room failures (begin_at (begun (opened show))) lines in
     let accepted = ap (λ (s : Session DeskState). s.state.accepted) (sym same) ∙ done.listened in
     record {
       same = same;
       accepted = accepted;
-      allows = subst (λ (l : List Command). LiveAllows show script failures l) (sym accepted) allows;
+      allows = subst (λ (l : List Command). LiveAllows ample show script failures l) (sym accepted) allows;
     }
 
 -- What was played, as it is told: over a show, for this many universes.
-module _ {K : Type 0} (told : ToldBySink K) (show : Show) (universes : ℕ)
+module _ {K : Type 0} (ample : Bool) (told : ToldBySink K) (show : Show) (universes : ℕ)
     (outlets outlets' : List (Option K)) (published unsent : List Command) (got : HaveGot told show universes outlets outlets' published) where
   served : (commands : List Command) → commands ≡ published ++ unsent → AreServed told show universes outlets outlets' commands
   served commands is = record { published = published; held_back = unsent; commands_are = is; got = got }
 
   in_front : (bytes : List ℕ) (unread held held' : Option (List ℕ)) (console : Kept)
-      → AnsweredPrefix (engine_answering published unsent) (Done show published unsent console) (begun (opened show)) bytes unread held held'
-      → PlaysInFront told show universes (lines_of bytes) held held' outlets outlets'
+      → AnsweredPrefix (engine_of ample published unsent) (Done show published unsent console) (begun (opened show)) bytes unread held held'
+      → PlaysInFront ample told show universes (lines_of bytes) held held' outlets outlets'
   in_front bytes unread held held' console a =
-      let live = is_live show published unsent console (lines_of bytes) (take a.lines (answered_lines (lines_of bytes))) a.failures a.allows
+      let live = is_live ample show published unsent console (lines_of bytes) (take a.lines (answered_lines (lines_of bytes))) a.failures a.allows
       a.stands in
       record {
         failures = a.failures;
@@ -137,16 +143,16 @@ module _ {K : Type 0} (told : ToldBySink K) (show : Show) (universes : ℕ)
       }
 
   whole_in_front : (script : List (List ℕ)) (held held' : Option (List ℕ)) (console : Kept) (tally : Tally)
-      → AnsweredWhole (engine_answering published unsent) (Done show published unsent console) (begun (opened show)) script held held' tally
-      → PlaysInFront told show universes script held held' outlets outlets'
+      → AnsweredWhole (engine_of ample published unsent) (Done show published unsent console) (begun (opened show)) script held held' tally
+      → PlaysInFront ample told show universes script held held' outlets outlets'
   whole_in_front script held held' console tally a =
       let lines = answered_lines script in
-      let live = is_live show published unsent console script lines a.failures a.allows a.stands in
+      let live = is_live ample show published unsent console script lines a.failures a.allows a.stands in
       let all : lines ≡ take (length lines) lines = sym (take_all (length lines) lines (omega arith)) in
       record {
         failures = a.failures;
         lines = length lines;
-        allows = subst (λ (ls : List (List ℕ)). LiveAllows show script a.failures (live_over show a.failures ls).state.accepted) all live.allows;
+        allows = subst (λ (ls : List (List ℕ)). LiveAllows ample show script a.failures (live_over show a.failures ls).state.accepted) all live.allows;
         text = subst (λ (ls : List (List ℕ)). AppendsFront held held' (live_over show a.failures ls).text) all
             (whole_front held held' (live_session show script a.failures).text
             (subst (λ (s : Session DeskState). Appends held held' s.text) live.same a.text));
@@ -154,10 +160,10 @@ module _ {K : Type 0} (told : ToldBySink K) (show : Show) (universes : ℕ)
       }
 
   taken_of : (before : ℕ) (bytes : List ℕ) (left held held' : Option (List ℕ)) (console : Kept)
-      → AnsweredTaken (engine_answering published unsent) (Done show published unsent console) (begun (opened show)) before bytes left held held'
-      → PlaysTaken told show universes before bytes left held held' outlets outlets'
+      → AnsweredTaken (engine_of ample published unsent) (Done show published unsent console) (begun (opened show)) before bytes left held held'
+      → PlaysTaken ample told show universes before bytes left held held' outlets outlets'
   taken_of before bytes left held held' console a =
-      let live = is_live show published unsent console (lines_of bytes) (take a.cut.lines (answered_lines (lines_of bytes))) a.failures
+      let live = is_live ample show published unsent console (lines_of bytes) (take a.cut.lines (answered_lines (lines_of bytes))) a.failures
       a.allows a.stands in
       record {
         failures = a.failures;
@@ -170,9 +176,9 @@ module _ {K : Type 0} (told : ToldBySink K) (show : Show) (universes : ℕ)
 
   -- how a session that was played ended by a fault, by its status
   live_fault : (before : ℕ) (bytes : List ℕ) (unread left held held' : Option (List ℕ)) (console : Kept) (fault : SessionFault)
-      → HasAnswered show published unsent console before bytes unread left held held' (Err fault)
+      → HasAnswered ample show published unsent console before bytes unread left held held' (Err fault)
       → KeepsLimit before bytes (Err fault)
-      → HasPlayedLive (status_for {A = Tally} (Err fault)) told show universes before bytes left held held' outlets outlets'
+      → HasPlayedLive ample (status_for {A = Tally} (Err fault)) told show universes before bytes left held held' outlets outlets'
   live_fault before bytes unread left held held' console faults.ReadFault a limit = taken_of before bytes left held held' console a
   live_fault before bytes unread left held held' console faults.InputTooLong a limit =
       (taken_of before bytes left held held' console a, limit)
@@ -184,16 +190,16 @@ none_held published [] n is none = append-nil published
 none_held published (command ∷ unsent) n is none = absurd (omega (arith, is, none))
 
 -- where all outlets had what they were to get
-plays : {K : Type 0} (told : ToldBySink K) (show : Show) (universes : ℕ) (script : List (List ℕ))
+plays : {K : Type 0} (ample : Bool) (told : ToldBySink K) (show : Show) (universes : ℕ) (script : List (List ℕ))
     (held held' : Option (List ℕ)) (outlets used used' rest : List (Option K)) (results : List (Option SinkFault))
     (published unsent : List Command) (n : ℕ) (console : Kept) (tally : Tally) → used ≡ take universes outlets → length used ≡ universes
     → n ≡ length unsent → AreDelivered told show used used' results published
-    → AnsweredWhole (engine_answering published unsent) (Done show published unsent console) (begun (opened show)) script held held' tally
+    → AnsweredWhole (engine_of ample published unsent) (Done show published unsent console) (begun (opened show)) script held held' tally
     → (n ≡ 0) × ((place : ℕ) (fault : Option SinkFault) → slice_get results place ≡ Some fault → fault ≡ None)
-    → PlaysScript told show universes script held held' outlets (used' ++ rest)
-plays told show universes script held held' outlets used used' rest results published unsent n console tally is count
+    → PlaysScript ample told show universes script held held' outlets (used' ++ rest)
+plays ample told show universes script held held' outlets used used' rest results published unsent n console tally is count
     counted d a ok =
-    let live = is_live show published unsent console script (answered_lines script) a.failures a.allows a.stands in
+    let live = is_live ample show published unsent console script (answered_lines script) a.failures a.allows a.stands in
     record {
       failures = a.failures;
       allows = live.allows;
@@ -215,7 +221,7 @@ session_order told_in told old new output output' outlets outlets' ToEnd faults.
 session_order told_in told old new output output' outlets outlets' ToEnd faults.Memory c = inl (inr c.failed)
 
 -- how a session that was played ended, by its status
-module _ {K : Type 0} (outlet_told : ToldBySink K) (show : Show) (universes before : ℕ)
+module _ {K : Type 0} (ample : Bool) (outlet_told : ToldBySink K) (show : Show) (universes before : ℕ)
     (outlets used used' rest : List (Option K)) (results : List (Option SinkFault)) (published unsent : List Command) (n : ℕ)
     (is : used ≡ take universes outlets) (count : length used ≡ universes) (behind : rest ≡ drop universes outlets)
     (counted : n ≡ length unsent) (d : AreDelivered outlet_told show used used' results published) where
@@ -223,18 +229,18 @@ module _ {K : Type 0} (outlet_told : ToldBySink K) (show : Show) (universes befo
   got = have_got outlet_told show universes outlets used used' rest results published is count behind d
 
   whole : (bytes : List ℕ) (held held' : Option (List ℕ)) (console : Kept) (tally : Tally)
-      → AnsweredWhole (engine_answering published unsent) (Done show published unsent console) (begun (opened show)) (lines_of bytes) held held' tally
-      → PlaysInFront outlet_told show universes (lines_of bytes) held held' outlets (used' ++ rest)
+      → AnsweredWhole (engine_of ample published unsent) (Done show published unsent console) (begun (opened show)) (lines_of bytes) held held' tally
+      → PlaysInFront ample outlet_told show universes (lines_of bytes) held held' outlets (used' ++ rest)
   whole bytes held held' console tally a =
-      whole_in_front outlet_told show universes outlets (used' ++ rest) published unsent got (lines_of bytes) held held' console
+      whole_in_front ample outlet_told show universes outlets (used' ++ rest) published unsent got (lines_of bytes) held held' console
       tally a
 
   live_at : (bytes : List ℕ) (unread left held held' : Option (List ℕ)) (console : Kept) (session : Result Tally SessionFault) (s : Status)
       → TellsRun session results n s
-      → HasAnswered show published unsent console before bytes unread left held held' session
-      → KeepsLimit before bytes session → HasPlayedLive s outlet_told show universes before bytes left held held' outlets (used' ++ rest)
+      → HasAnswered ample show published unsent console before bytes unread left held held' session
+      → KeepsLimit before bytes session → HasPlayedLive ample s outlet_told show universes before bytes left held held' outlets (used' ++ rest)
   live_at bytes unread left held held' console (Ok tally) status.Ok tells a limit = (
-    plays outlet_told show universes (lines_of bytes) held held' outlets used used' rest results published unsent n console
+    plays ample outlet_told show universes (lines_of bytes) held held' outlets used used' rest results published unsent n console
         tally is count counted d a tells,
     limit,
   )
@@ -246,25 +252,25 @@ module _ {K : Type 0} (outlet_told : ToldBySink K) (show : Show) (universes befo
   live_at bytes unread left held held' console (Ok tally) status.InputTooLong tells a limit = absurd tells
   live_at bytes unread left held held' console (Ok tally) status.Live tells a limit = absurd tells
   live_at bytes unread left held held' console (Err fault) s tells a limit =
-      subst (λ (t : Status). HasPlayedLive t outlet_told show universes before bytes left held held' outlets (used' ++ rest)) (sym tells)
-      (live_fault outlet_told show universes outlets (used' ++ rest) published unsent got before bytes unread left held held'
+      subst (λ (t : Status). HasPlayedLive ample t outlet_told show universes before bytes left held held' outlets (used' ++ rest)) (sym tells)
+      (live_fault ample outlet_told show universes outlets (used' ++ rest) published unsent got before bytes unread left held held'
       console fault a limit)
 
   -- the same, where the source may tell no bytes
   pub has_played_live : (o unread left held held' : Option (List ℕ)) (console : Kept) (session : Result Tally SessionFault) (s : Status)
       → TellsRun session results n s
-      → IfSome o (λ bytes. HasAnswered show published unsent console before bytes unread left held held' session)
+      → IfSome o (λ bytes. HasAnswered ample show published unsent console before bytes unread left held held' session)
       → IfSome o (λ bytes. KeepsLimit before bytes session)
-      → IfSome o (λ bytes. HasPlayedLive s outlet_told show universes before bytes left held held' outlets (used' ++ rest))
+      → IfSome o (λ bytes. HasPlayedLive ample s outlet_told show universes before bytes left held held' outlets (used' ++ rest))
   has_played_live o unread left held held' console session s tells a limit =
       both_known o _ _ _ a limit (λ bytes outcome keeps. live_at bytes unread left held held' console session s tells outcome keeps)
 
   -- and in which order its faults are told
   to_end : (Told : List (Option SinkFault) → ℕ → Type 0) (bytes : List ℕ) (held held' : Option (List ℕ)) (console : Kept) (tally : Tally)
-      → AnsweredWhole (engine_answering published unsent) (Done show published unsent console) (begun (opened show)) (lines_of bytes) held held' tally
-      → Told results (length unsent) → PlaysToEnd Told outlet_told show universes (lines_of bytes) held held' outlets (used' ++ rest)
+      → AnsweredWhole (engine_of ample published unsent) (Done show published unsent console) (begun (opened show)) (lines_of bytes) held held' tally
+      → Told results (length unsent) → PlaysToEnd ample Told outlet_told show universes (lines_of bytes) held held' outlets (used' ++ rest)
   to_end Told bytes held held' console tally a told =
-      let live = is_live show published unsent console (lines_of bytes) (answered_lines (lines_of bytes)) a.failures a.allows a.stands in
+      let live = is_live ample show published unsent console (lines_of bytes) (answered_lines (lines_of bytes)) a.failures a.allows a.stands in
       record {
         failures = a.failures;
         allows = live.allows;
@@ -276,10 +282,10 @@ module _ {K : Type 0} (outlet_told : ToldBySink K) (show : Show) (universes befo
   order_at : {S O : Type 0} (told_in : ToldBySource S) (told_out : ToldBySink O) (old new : Lines S) (output output' : O) (bytes : List ℕ)
       (unread left held held' : Option (List ℕ)) (console : Kept) (session : Result Tally SessionFault) (s : Status)
       → TellsRun session results n s
-      → HasAnswered show published unsent console before bytes unread left held held' session
+      → HasAnswered ample show published unsent console before bytes unread left held held' session
       → KeepsLimit before bytes session → HasSessionCause told_in told_out old new output output' session
       → DecidesInOrder s (told_in.faults old.source.now) (told_in.faults new.source.now) told_out output output' outlets (used' ++ rest)
-      (λ Told. PlaysToEnd Told outlet_told show universes (lines_of bytes) held held' outlets (used' ++ rest)
+      (λ Told. PlaysToEnd ample Told outlet_told show universes (lines_of bytes) held held' outlets (used' ++ rest)
       × (before + length (bytes_wanted bytes) ≤ INPUT_BYTES))
   order_at told_in told_out old new output output' bytes unread left held held' console (Ok tally) status.WriteFault tells a limit
       c = inr (
@@ -303,17 +309,17 @@ module _ {K : Type 0} (outlet_told : ToldBySink K) (show : Show) (universes befo
   order_at told_in told_out old new output output' bytes unread left held held' console (Ok tally) status.Live tells a limit c = tt
   order_at told_in told_out old new output output' bytes unread left held held' console (Err fault) s tells a limit c =
       subst (λ (t : Status). DecidesInOrder t (told_in.faults old.source.now) (told_in.faults new.source.now) told_out output output' outlets
-      (used' ++ rest) (λ Told. PlaysToEnd Told outlet_told show universes (lines_of bytes) held held' outlets (used' ++ rest)
+      (used' ++ rest) (λ Told. PlaysToEnd ample Told outlet_told show universes (lines_of bytes) held held' outlets (used' ++ rest)
       × (before + length (bytes_wanted bytes) ≤ INPUT_BYTES))) (sym tells)
       (session_order told_in told_out old new output output' outlets (used' ++ rest) _ fault c)
 
   pub in_order : {S O : Type 0} (told_in : ToldBySource S) (told_out : ToldBySink O) (old new : Lines S) (output output' : O)
       (o unread left held held' : Option (List ℕ)) (console : Kept) (session : Result Tally SessionFault) (s : Status)
       → TellsRun session results n s
-      → IfSome o (λ bytes. HasAnswered show published unsent console before bytes unread left held held' session)
+      → IfSome o (λ bytes. HasAnswered ample show published unsent console before bytes unread left held held' session)
       → IfSome o (λ bytes. KeepsLimit before bytes session) → HasSessionCause told_in told_out old new output output' session
       → IfSome o (λ bytes. DecidesInOrder s (told_in.faults old.source.now) (told_in.faults new.source.now) told_out output output' outlets
-      (used' ++ rest) (λ Told. PlaysToEnd Told outlet_told show universes (lines_of bytes) held held' outlets (used' ++ rest)
+      (used' ++ rest) (λ Told. PlaysToEnd ample Told outlet_told show universes (lines_of bytes) held held' outlets (used' ++ rest)
       × (before + length (bytes_wanted bytes) ≤ INPUT_BYTES)))
   in_order told_in told_out old new output output' o unread left held held' console session s tells a limit c =
       both_known o _ _ _ a limit (λ bytes outcome keeps. order_at told_in told_out old new output output' bytes unread left held
@@ -331,11 +337,18 @@ run_finishes told_in told_out old new output output' (Err fault) results n s tel
     (session_finishes told_in told_out old new output output' (Err fault) c none)
 
 -- where memory was wanted at the opening, nothing was read
-pub none_played : {K : Type 0} (told : ToldBySink K) (show : Show) (universes before : ℕ)
+pub none_played : {K : Type 0} (ample : Bool) (told : ToldBySink K) (show : Show) (universes before : ℕ)
     (o left held held' : Option (List ℕ)) (outlets outlets' : List (Option K)) → held' ≡ held → outlets' ≡ outlets
-    → IfSome o (λ bytes. HasPlayedLive status.Memory told show universes before bytes left held held' outlets outlets')
-none_played told show universes before None left held held' outlets outlets' same kept = tt
-none_played told show universes before (Some bytes) left held held' outlets outlets' same kept = inl (same, kept)
+    → IfSome o (λ bytes. HasPlayedLive ample status.Memory told show universes before bytes left held held' outlets outlets')
+none_played ample told show universes before None left held held' outlets outlets' same kept = tt
+none_played ample told show universes before (Some bytes) left held held' outlets outlets' same kept = inl (same, kept)
+
+pub none_ordered : {O K : Type 0} (o : Option (List ℕ)) (reads reads' : ℕ) (told : ToldBySink O) (output output' : O)
+    (outlets outlets' : List (Option K)) (ToEnd : List ℕ → (List (Option SinkFault) → ℕ → Type 0) → Type 0)
+    → output' ≡ output → outlets' ≡ outlets
+    → IfSome o (λ bytes. DecidesInOrder status.Memory reads reads' told output output' outlets outlets' (ToEnd bytes))
+none_ordered None reads reads' told output output' outlets outlets' ToEnd same kept = tt
+none_ordered (Some bytes) reads reads' told output output' outlets outlets' ToEnd same kept = inl (inl (same, kept))
 
 -- the outlets in use were played, and the others are as they were
 pub are_played : {K : Type 0} (told : ToldBySink K) (show : Show) (universes : ℕ)
@@ -416,3 +429,73 @@ not_usage (Err faults.ReadFault) results unsent s tells = λ e. let bad : status
 not_usage (Err faults.WriteFault) results unsent s tells = λ e. let bad : status.WriteFault ≡ status.Usage = sym tells ∙ e in absurd cc
 not_usage (Err faults.InputTooLong) results unsent s tells = λ e. let bad : status.InputTooLong ≡ status.Usage = sym tells ∙ e in absurd cc
 not_usage (Err faults.Memory) results unsent s tells = λ e. let bad : status.Memory ≡ status.Usage = sym tells ∙ e in absurd cc
+
+-- an outlet that was out of memory
+outlet_wanted : {K : Type 0} (told : ToldBySink K) (show : Show) (universes : ℕ)
+    (outlets used used' rest : List (Option K)) (results : List (Option SinkFault)) (published : List Command) (place : ℕ)
+    → used ≡ take universes outlets → length used ≡ universes → universes ≤ length outlets → IsFull outlets
+    → AreDelivered told show used used' results published
+    → slice_get results place ≡ Some (Some sinks.Memory) → OutletWanted told outlets (used' ++ rest)
+outlet_wanted told show universes outlets used used' rest results published place is count most full d at =
+    let within : place < universes = omega (arith, d.others place sinks.Memory at, count) in
+    let from = full_sink outlets full place (omega (arith, within, most)) in
+    let back = d.each place from.0 (ap (λ l. slice_get l place) is ∙ (get_take universes place outlets within ∙ from.1)) in
+    record {
+      place = place;
+      start = from.0;
+      new = back.new;
+      before = from.1;
+      after = get_before used' rest place (omega (arith, within, count, d.same_places)) ∙ back.place_is;
+      rose = back.delivered.cause.memory (same_Some back.fault (Some sinks.Memory) (sym back.fault_is ∙ at));
+    }
+
+-- commands that stay unpublished are so since the writer's heap refused some
+unsent_rose : (n before after : ℕ) → (HasStood before after → n ≡ 0) → 0 < n → Rose before after
+unsent_rose n before after sent some = elim (cases_lt after (one_more before)) [
+  | inl stood ↦ absurd (omega (arith, sent stood, some))
+  | inr rose ↦ rose
+]
+
+-- what wanted memory of one heap or of the output did so of the two heaps, the output and the outlets
+pub as_live : {O K : Type 0} (told_out : ToldBySink O) (told : ToldBySink K) (before after writers writers' : ℕ) (output output' : O)
+    (outlets outlets' : List (Option K)) (s : Status) → WantsMemory told_out before after output output' s
+    → WantsLive told_out told before after writers writers' output output' outlets outlets' s
+as_live told_out told before after writers writers' output output' outlets outlets' s wanted = λ is. elim (wanted is) [
+  | inl refused ↦ inl (inl refused)
+  | inr sink ↦ inr (inl sink)
+]
+
+-- and what did so by the last calls of a heap did so by all
+pub live_since : {O K : Type 0} (told_out : ToldBySink O) (told : ToldBySink K) (first before after writers writers' : ℕ) (output output' : O)
+    (outlets outlets' : List (Option K)) (s : Status) → first ≤ before
+    → WantsLive told_out told before after writers writers' output output' outlets outlets' s
+    → WantsLive told_out told first after writers writers' output output' outlets outlets' s
+live_since told_out told first before after writers writers' output output' outlets outlets' s held wanted = λ is. elim (wanted is) [
+  | inl heaps ↦ elim heaps [
+    | inl refused ↦ inl (inl (rose_since first before after held refused))
+    | inr writer ↦ inl (inr writer)
+  ]
+  | inr sinks ↦ inr sinks
+]
+
+-- a live run that wanted memory
+pub live_wanted : {S O K : Type 0} (told_in : ToldBySource S) (told_out : ToldBySink O) (told : ToldBySink K)
+    (old new : Lines S) (output output' : O) (show : Show) (universes : ℕ) (outlets used used' rest : List (Option K))
+    (results : List (Option SinkFault)) (published : List Command) (n before after writers writers' : ℕ)
+    (session : Result Tally SessionFault) (s : Status) → used ≡ take universes outlets → length used ≡ universes
+    → universes ≤ length outlets → IsFull outlets → AreDelivered told show used used' results published
+    → TellsRun session results n s → HasSessionCause told_in told_out old new output output' session
+    → (HasStood writers writers' → n ≡ 0)
+    → WantsLive told_out told before after writers writers' output output' outlets (used' ++ rest) s
+live_wanted told_in told_out told old new output output' show universes outlets used used' rest results published n before after
+    writers writers' (Ok tally) s is count most full d tells c sent = λ memory.
+    let lacks : LacksMemory results n = subst (λ (t : Status). TellsOutlets results n t) memory tells in
+    elim lacks.wanted [
+      | inl at ↦ inr (inr (outlet_wanted told show universes outlets used used' rest results published at.0 is count most full d at.1))
+      | inr some ↦ inl (inr (unsent_rose n writers writers' sent some))
+    ]
+live_wanted told_in told_out told old new output output' show universes outlets used used' rest results published n before after
+    writers writers' (Err fault) s is count most full d tells c sent =
+    as_live told_out told before after writers writers' output output' outlets (used' ++ rest) s
+    (subst (λ (t : Status). WantsMemory told_out before after output output' t) (sym tells)
+    (session_wanted told_in told_out before after old new output output' (Err fault) c))

@@ -1,5 +1,5 @@
 -- What a run of several operators comes to.
-use Rattle.std.specs.Prelude.{◌≡◌, ◌⊎◌, ◌≢◌, ℕ, ◌+◌, ◌<◌, ◌≤◌, Option, Some, None, IfSome, IsSome, Result, Ok, Err, List, []}
+use Rattle.std.specs.Prelude.{◌≡◌, ◌⊎◌, ◌≢◌, ℕ, ◌+◌, ◌<◌, ◌≤◌, Bool, Option, Some, None, IfSome, IsSome, Result, Ok, Err, List, []}
 use Rattle.std.specs.Prelude.{length, take, drop, slice_get}
 use Rattle.std.specs.Io.KnownBytes.{Appends}
 use Rattle.lx_base.specs.declared.TheConstants.{INPUT_BYTES}
@@ -7,7 +7,7 @@ use Rattle.lx_io.specs.declared.sink.SinkFault.{SinkFault}
 use Rattle.lx_io.specs.declared.sink.SinkFault.TheVariants.{Failed, Memory}
 use Rattle.lx_io.specs.Causes.{Rose}
 use Rattle.lx_io.specs.Puts.{AppendsFront}
-use Rattle.lx_io.specs.Told.{ToldBySource}
+use Rattle.lx_io.specs.Told.{ToldBySink, ToldBySource}
 use Rattle.lx_spec.specs.declared.Form.{Form}
 use Rattle.lx_spec.specs.declared.Job.{Job}
 use Rattle.lx_spec.specs.declared.Job.TheVariants.{Crew}
@@ -23,7 +23,7 @@ use Rattle.lx_crew.specs.declared.fault.OperatorFault.{OperatorFault}
 use Rattle.lx_crew.specs.declared.fault.OperatorFault.TheVariants as ends
 use Rattle.lx_base.specs.Places.{EachAt}
 use Rattle.lx_crew.specs.CrewOutcome.{ScriptIsBack}
-use Rattle.lx_crew.specs.Transcripts.{TranscriptPrefix}
+use Rattle.lx_crew.specs.Transcripts.{CrewAllowsBy, TranscriptPrefix}
 use Rattle.lx_desk.specs.declared.desk.Status.{Status}
 use Rattle.lx_desk.specs.declared.desk.Status.TheVariants as status
 use Rattle.lx_desk.specs.Endings.{HasEnded}
@@ -39,27 +39,27 @@ pub record IsLowest (told : List (Option OperatorFault)) (fault : OperatorFault)
   pub below : (lower : ℕ) (other : Option OperatorFault) → lower < place → slice_get told lower ≡ Some other → other ≡ None
 
 -- The whole text of a crew was written: the lines of all operators, each once and in its operator's order, and each with its replies.
--- Attempts failed only at edits.
-pub record WritesTranscript (show : Show) (lines : ℕ → List (List ℕ)) (held held' : Known) : Type 0 where
+-- Attempts failed only at edits; and here and below none did where memory was ample.
+pub record WritesTranscript (ample : Bool) (show : Show) (lines : ℕ → List (List ℕ)) (held held' : Known) : Type 0 where
   pub entries : List CrewEntry
   pub merged : Merged lines entries
   pub failures : List (Option ℕ)
-  pub allows : CrewAllows (opened show) entries failures
+  pub allows : CrewAllowsBy ample (opened show) entries failures
   pub text : Appends held held' (crew_text (opened show) entries failures)
 
 -- What was written of these lines, by the status: the whole text, also after a fault of an operator, of which the lowest operator's is
 -- told. After a fault of the output it is a prefix of the text of first lines of each operator.
-abbrev pub WritesLines : Status → Show → (ℕ → List (List ℕ)) → List (Option OperatorFault) → (held held' : Known) → Type 0
-WritesLines status.Ok show lines told held held' = WritesTranscript show lines held held' × NoneTold told
-WritesLines status.ReadFault show lines told held held' = WritesTranscript show lines held held' × IsLowest told ends.ReadFault
-WritesLines status.InputTooLong show lines told held held' = WritesTranscript show lines held held' × IsLowest told ends.InputTooLong
-WritesLines status.WriteFault show lines told held held' = TranscriptPrefix (opened show) lines held held'
-WritesLines status.Memory show lines told held held' = TranscriptPrefix (opened show) lines held held'
-WritesLines other show lines told held held' = ⊥
+abbrev pub WritesLines : (ample : Bool) → Status → Show → (ℕ → List (List ℕ)) → List (Option OperatorFault) → (held held' : Known) → Type 0
+WritesLines ample status.Ok show lines told held held' = WritesTranscript ample show lines held held' × NoneTold told
+WritesLines ample status.ReadFault show lines told held held' = WritesTranscript ample show lines held held' × IsLowest told ends.ReadFault
+WritesLines ample status.InputTooLong show lines told held held' = WritesTranscript ample show lines held held' × IsLowest told ends.InputTooLong
+WritesLines ample status.WriteFault show lines told held held' = TranscriptPrefix ample (opened show) lines held held'
+WritesLines ample status.Memory show lines told held held' = TranscriptPrefix ample (opened show) lines held held'
+WritesLines ample other show lines told held held' = ⊥
 
 -- The first n operators were served over a show: each place has its source again, and `lines` has what was taken of it. Without a
 -- fault of its own these are all its lines up to `quit` or the end, and with one those that were taken whole. No others have lines.
-pub record Serves {S : Type 0} (told_in : ToldBySource S) (show : Show) (count : ℕ) (operators operators' : List (Option S))
+pub record Serves {S : Type 0} (ample : Bool) (told_in : ToldBySource S) (show : Show) (count : ℕ) (operators operators' : List (Option S))
     (held held' : Known) (s : Status) : Type 0 where
   pub lines : ℕ → List (List ℕ)
   pub told : List (Option OperatorFault)
@@ -67,22 +67,22 @@ pub record Serves {S : Type 0} (told_in : ToldBySource S) (show : Show) (count :
       → ScriptIsBack told_in operators' told place start (lines (place + 1))
   pub none : lines 0 ≡ []
   pub no_more : (operator : ℕ) → count < operator → lines operator ≡ []
-  pub written : WritesLines s show lines told held held'
+  pub written : WritesLines ample s show lines told held held'
 
 -- the same, or memory ran out before the first line, and then nothing was read or written
-abbrev pub ServesOrWants : {S : Type 0} → ToldBySource S → Show → ℕ → (operators operators' : List (Option S))
+abbrev pub ServesOrWants : {S : Type 0} → (ample : Bool) → ToldBySource S → Show → ℕ → (operators operators' : List (Option S))
     → (held held' : Known) → Status → Type 0
-ServesOrWants told show count operators operators' held held' s =
+ServesOrWants ample told show count operators operators' held held' s =
     ((s ≡ status.Memory) × ((held' ≡ held) × (operators' ≡ operators)))
-    ⊎ Serves told show count operators operators' held held' s
+    ⊎ Serves ample told show count operators operators' held held' s
 
 -- The show was read, and the operators were served over it.
-pub record ServesShow {S : Type 0} (told : ToldBySource S) (count : ℕ) (form : Form) (bytes : List ℕ)
+pub record ServesShow {S : Type 0} (ample : Bool) (told : ToldBySource S) (count : ℕ) (form : Form) (bytes : List ℕ)
     (operators operators' : List (Option S)) (held held' : Known) (s : Status) : Type 0 where
   pub reading : Reading
   pub read : reads form bytes ≡ Ok reading
   pub within : length (show_wanted bytes) ≤ INPUT_BYTES
-  pub served : Serves told reading.show count operators operators' held held' s
+  pub served : Serves ample told reading.show count operators operators' held held' s
 
 -- It ended as another job, before an operator's line was taken: the show is refused, or there was a fault.
 pub record ServesNone {S : Type 0} (count : ℕ) (form : Form) (bytes : List ℕ) (left : Known) (operators operators' : List (Option S))
@@ -92,11 +92,11 @@ pub record ServesNone {S : Type 0} (count : ℕ) (form : Form) (bytes : List ℕ
   pub ended : HasEnded s (Crew count form) bytes left held held'
   pub untouched : operators' ≡ operators
 
-abbrev pub HasCrewEnded : {S : Type 0} → ToldBySource S → ℕ → Form → List ℕ → Known → (operators operators' : List (Option S))
+abbrev pub HasCrewEnded : {S : Type 0} → (ample : Bool) → ToldBySource S → ℕ → Form → List ℕ → Known → (operators operators' : List (Option S))
     → (held held' : Known) → Status → Type 0
-HasCrewEnded told count form bytes left operators operators' held held' s =
+HasCrewEnded ample told count form bytes left operators operators' held held' s =
     ServesNone count form bytes left operators operators' held held' s
-    ⊎ ServesShow told count form bytes operators operators' held held' s
+    ⊎ ServesShow ample told count form bytes operators operators' held held' s
 
 -- A prefix of the text of a crew was written: of each operator in use first lines up to `quit` or the end, numbered from 1, and of
 -- no other any. Attempts failed only at edits.
@@ -162,3 +162,13 @@ abbrev pub TellsCrew : Option SinkFault → List (Option OperatorFault) → Stat
 TellsCrew None told s = TellsOperators told s
 TellsCrew (Some Failed) told s = s ≡ status.WriteFault
 TellsCrew (Some Memory) told s = s ≡ status.Memory
+
+-- The heap refused some, or the queue's did, or the output itself was out of memory.
+abbrev pub CrewRunsShort : {K : Type 0} → ToldBySink K → (refusals refusals' queues queues' : ℕ) → (output output' : K) → Type 0
+CrewRunsShort told refusals refusals' queues queues' output output' =
+    (Rose refusals refusals' ⊎ Rose queues queues') ⊎ Rose (told.wants output) (told.wants output')
+
+-- Memory is told only there.
+abbrev pub WantsCrew : {K : Type 0} → ToldBySink K → (refusals refusals' queues queues' : ℕ) → (output output' : K) → Status → Type 0
+WantsCrew told refusals refusals' queues queues' output output' s =
+    s ≡ status.Memory → CrewRunsShort told refusals refusals' queues queues' output output'

@@ -1,5 +1,5 @@
 -- What a live run of the program comes to, and what its outlets have.
-use Rattle.std.specs.Prelude.{◌≡◌, ◌⊎◌, ◌≢◌, ℕ, ◌+◌, ◌-◌, ◌<◌, ◌≤◌, false, Option, Some, None, IfSome, Result, Ok, Err, IsOk}
+use Rattle.std.specs.Prelude.{◌≡◌, ◌⊎◌, ◌≢◌, ℕ, ◌+◌, ◌-◌, ◌<◌, ◌≤◌, Bool, false, Option, Some, None, IfSome, Result, Ok, Err, IsOk}
 use Rattle.std.specs.Prelude.{List, ◌++◌, length, take, drop, slice_get}
 use Rattle.std.specs.Io.KnownBytes.{Appends}
 use Rattle.lx_base.specs.declared.TheConstants.{INPUT_BYTES}
@@ -22,7 +22,7 @@ use Rattle.lx_spec.specs.DeskSession.{DeskState, begun, desk_answering}
 use Rattle.lx_spec.specs.Reading.{Reading, reads, script_of, lines_read}
 use Rattle.lx_spec.specs.ScriptOutput.{input_wanted}
 use Rattle.lx_workers.specs.Works.{HasAll}
-use Rattle.lx_workers.specs.Engines.{leaves_room}
+use Rattle.lx_workers.specs.Engines.{engine_answering}
 use Rattle.lx_workers.specs.LiveOutcome.{AreDelivered}
 use Rattle.lx_session.specs.Known.{Known}
 use Rattle.lx_session.specs.declared.fault.SessionFault.{SessionFault}
@@ -39,9 +39,9 @@ live_session show script failures = whole_session (desk_answering false) (begun 
 abbrev pub live_after : Show → List (List ℕ) → List (Option ℕ) → ℕ → Session DeskState
 live_after show script failures lines = session_after (desk_answering false) (begun (opened show)) script failures lines
 
--- Attempts failed only at edits that the desk accepts, as long as fewer than 2^62 commands were accepted.
-abbrev pub LiveAllows : Show → List (List ℕ) → List (Option ℕ) → (accepted : List Command) → Type 0
-LiveAllows show script failures accepted = Allows (desk_answering (leaves_room accepted)) (begun (opened show)) script failures
+-- As long as fewer than 2^62 commands were accepted attempts failed only at edits that the desk accepts, and where memory was ample none did.
+abbrev pub LiveAllows : (ample : Bool) → Show → List (List ℕ) → List (Option ℕ) → (accepted : List Command) → Type 0
+LiveAllows ample show script failures accepted = Allows (engine_answering ample accepted) (begun (opened show)) script failures
 
 -- an outlet has the lines of versions of rising lists of commands, the last of which begins with these
 pub record HasVersions {K : Type 0} (told : ToldBySink K) (show : Show) (outlets' : List (Option K)) (place : ℕ) (start : K)
@@ -55,11 +55,12 @@ HaveVersions {K} told show universes outlets outlets' list =
     (place : ℕ) (start : K) → place < universes → slice_get outlets place ≡ Some (Some start)
     → HasVersions told show outlets' place start list
 
--- A script was answered to its end, and each outlet's last line is that of a version after all accepted commands.
-pub record PlaysScript {K : Type 0} (told : ToldBySink K) (show : Show) (universes : ℕ) (script : List (List ℕ))
+-- A script was answered to its end, and each outlet's last line is that of a version after all accepted commands. Here and below no attempt
+-- failed where memory was ample, by `LiveAllows`.
+pub record PlaysScript {K : Type 0} (ample : Bool) (told : ToldBySink K) (show : Show) (universes : ℕ) (script : List (List ℕ))
     (held held' : Known) (outlets outlets' : List (Option K)) : Type 0 where
   pub failures : List (Option ℕ)
-  pub allows : LiveAllows show script failures (live_session show script failures).state.accepted
+  pub allows : LiveAllows ample show script failures (live_session show script failures).state.accepted
   pub text : Appends held held' (live_session show script failures).text
   pub versions : HaveVersions told show universes outlets outlets' (live_session show script failures).state.accepted
 
@@ -81,72 +82,72 @@ pub record AreServed {K : Type 0} (told : ToldBySink K) (show : Show) (universes
 
 -- Up to this many lines of a script were answered, by a prefix of the replies, and the outlets got what was published of the commands that
 -- these lines came to.
-pub record PlaysInFront {K : Type 0} (told : ToldBySink K) (show : Show) (universes : ℕ)
+pub record PlaysInFront {K : Type 0} (ample : Bool) (told : ToldBySink K) (show : Show) (universes : ℕ)
     (script : List (List ℕ)) (held held' : Known) (outlets outlets' : List (Option K)) : Type 0 where
   pub failures : List (Option ℕ)
   pub lines : ℕ
-  pub allows : LiveAllows show script failures (live_after show script failures lines).state.accepted
+  pub allows : LiveAllows ample show script failures (live_after show script failures lines).state.accepted
   pub text : AppendsFront held held' (live_after show script failures lines).text
   pub served : AreServed told show universes outlets outlets' (live_after show script failures lines).state.accepted
 
 -- The lines that were taken whole were answered, and the outlets got what was published of the commands that these lines came to.
-pub record PlaysTaken {K : Type 0} (told : ToldBySink K) (show : Show) (universes before : ℕ)
+pub record PlaysTaken {K : Type 0} (ample : Bool) (told : ToldBySink K) (show : Show) (universes before : ℕ)
     (bytes : List ℕ) (left held held' : Known) (outlets outlets' : List (Option K)) : Type 0 where
   pub failures : List (Option ℕ)
   pub cut : CutOff before bytes left
   pub short : cut.lines < lines_wanted (lines_of bytes)
-  pub allows : LiveAllows show (lines_of bytes) failures (live_after show (lines_of bytes) failures cut.lines).state.accepted
+  pub allows : LiveAllows ample show (lines_of bytes) failures (live_after show (lines_of bytes) failures cut.lines).state.accepted
   pub text : Appends held held' (live_after show (lines_of bytes) failures cut.lines).text
   pub served : AreServed told show universes outlets outlets' (live_after show (lines_of bytes) failures cut.lines).state.accepted
 
 -- how a script over a show ended that was played live, before which this many bytes of the input were taken
-abbrev pub HasPlayedLive : {K : Type 0} → Status → ToldBySink K → Show → (universes before : ℕ) → List ℕ
+abbrev pub HasPlayedLive : {K : Type 0} → (ample : Bool) → Status → ToldBySink K → Show → (universes before : ℕ) → List ℕ
     → (left held held' : Known) → (outlets outlets' : List (Option K)) → Type 0
-HasPlayedLive status.Ok told show universes before bytes left held held' outlets outlets' =
-    PlaysScript told show universes (lines_of bytes) held held' outlets outlets'
+HasPlayedLive ample status.Ok told show universes before bytes left held held' outlets outlets' =
+    PlaysScript ample told show universes (lines_of bytes) held held' outlets outlets'
     × (before + length (bytes_wanted bytes) ≤ INPUT_BYTES)
-HasPlayedLive status.ReadFault told show universes before bytes left held held' outlets outlets' =
-    PlaysTaken told show universes before bytes left held held' outlets outlets'
-HasPlayedLive status.InputTooLong told show universes before bytes left held held' outlets outlets' =
-    PlaysTaken told show universes before bytes left held held' outlets outlets'
+HasPlayedLive ample status.ReadFault told show universes before bytes left held held' outlets outlets' =
+    PlaysTaken ample told show universes before bytes left held held' outlets outlets'
+HasPlayedLive ample status.InputTooLong told show universes before bytes left held held' outlets outlets' =
+    PlaysTaken ample told show universes before bytes left held held' outlets outlets'
     × (INPUT_BYTES < before + length (bytes_wanted bytes))
-HasPlayedLive status.WriteFault told show universes before bytes left held held' outlets outlets' =
-    PlaysInFront told show universes (lines_of bytes) held held' outlets outlets'
-HasPlayedLive status.Memory told show universes before bytes left held held' outlets outlets' =
+HasPlayedLive ample status.WriteFault told show universes before bytes left held held' outlets outlets' =
+    PlaysInFront ample told show universes (lines_of bytes) held held' outlets outlets'
+HasPlayedLive ample status.Memory told show universes before bytes left held held' outlets outlets' =
     ((held' ≡ held) × (outlets' ≡ outlets))
-    ⊎ PlaysInFront told show universes (lines_of bytes) held held' outlets outlets'
-HasPlayedLive other told show universes before bytes left held held' outlets outlets' = ⊥
+    ⊎ PlaysInFront ample told show universes (lines_of bytes) held held' outlets outlets'
+HasPlayedLive ample other told show universes before bytes left held held' outlets outlets' = ⊥
 
 -- The show was read, the replies to the whole script were written, and each outlet's last line is that of a version after all commands
 -- that were accepted.
-pub record PlaysWhole {K : Type 0} (told : ToldBySink K) (universes : ℕ) (form : Form) (bytes : List ℕ)
+pub record PlaysWhole {K : Type 0} (ample : Bool) (told : ToldBySink K) (universes : ℕ) (form : Form) (bytes : List ℕ)
     (held held' : Known) (outlets outlets' : List (Option K)) : Type 0 where
   pub reading : Reading
   pub read : reads form bytes ≡ Ok reading
   pub failures : List (Option ℕ)
-  pub allows : LiveAllows reading.show (script_of bytes) failures (live_session reading.show (script_of bytes) failures).state.accepted
+  pub allows : LiveAllows ample reading.show (script_of bytes) failures (live_session reading.show (script_of bytes) failures).state.accepted
   pub text : Appends held held' (live_session reading.show (script_of bytes) failures).text
   pub versions : HaveVersions told reading.show universes outlets outlets' (live_session reading.show (script_of bytes) failures).state.accepted
   pub within : length (input_wanted form bytes) ≤ INPUT_BYTES
 
 -- The show was read, up to this many lines of its script were answered, by a prefix of the replies, and the outlets got what was published
 -- of the commands that these lines came to.
-pub record LivesInFront {K : Type 0} (told : ToldBySink K) (universes : ℕ) (form : Form)
+pub record LivesInFront {K : Type 0} (ample : Bool) (told : ToldBySink K) (universes : ℕ) (form : Form)
     (bytes : List ℕ) (held held' : Known) (outlets outlets' : List (Option K)) : Type 0 where
   pub reading : Reading
   pub read : reads form bytes ≡ Ok reading
-  pub plays : PlaysInFront told reading.show universes (script_of bytes) held held' outlets outlets'
+  pub plays : PlaysInFront ample told reading.show universes (script_of bytes) held held' outlets outlets'
 
 -- The show was read, the script lines that were taken whole were answered, and the outlets got what was published of the commands that
 -- these lines came to.
-pub record LivesTaken {K : Type 0} (told : ToldBySink K) (universes : ℕ) (form : Form)
+pub record LivesTaken {K : Type 0} (ample : Bool) (told : ToldBySink K) (universes : ℕ) (form : Form)
     (bytes : List ℕ) (left held held' : Known) (outlets outlets' : List (Option K)) : Type 0 where
   pub reading : Reading
   pub read : reads form bytes ≡ Ok reading
   pub failures : List (Option ℕ)
   pub cut : CutOff 0 bytes left
   pub short : cut.lines < lines_read (lines_of bytes) + lines_wanted (script_of bytes)
-  pub allows : LiveAllows reading.show (script_of bytes) failures
+  pub allows : LiveAllows ample reading.show (script_of bytes) failures
       (live_after reading.show (script_of bytes) failures (cut.lines - lines_read (lines_of bytes))).state.accepted
   pub text : Appends held held'
       (live_after reading.show (script_of bytes) failures (cut.lines - lines_read (lines_of bytes))).text
@@ -160,25 +161,25 @@ NoneLived form bytes held held' outlets outlets' = (outlets' ≡ outlets) × (Is
 -- How the live run of a form over this many universes ended: with Ok as above; with ShowRefused as another job, and nothing in any outlet.
 -- Else it ended as another job with the status, and the outlets got nothing, or what was published of the commands that the lines which
 -- were answered came to.
-abbrev pub HasLived : {K : Type 0} → Status → ToldBySink K → ℕ → Form → List ℕ
+abbrev pub HasLived : {K : Type 0} → (ample : Bool) → Status → ToldBySink K → ℕ → Form → List ℕ
     → (left held held' : Known) → (outlets outlets' : List (Option K)) → Type 0
-HasLived status.Ok told universes form bytes left held held' outlets outlets' =
-    PlaysWhole told universes form bytes held held' outlets outlets'
-HasLived status.ShowRefused told universes form bytes left held held' outlets outlets' =
+HasLived ample status.Ok told universes form bytes left held held' outlets outlets' =
+    PlaysWhole ample told universes form bytes held held' outlets outlets'
+HasLived ample status.ShowRefused told universes form bytes left held held' outlets outlets' =
     HasEnded status.ShowRefused (Script (Live universes) form) bytes left held held' × (outlets' ≡ outlets)
-HasLived status.ReadFault told universes form bytes left held held' outlets outlets' =
+HasLived ample status.ReadFault told universes form bytes left held held' outlets outlets' =
     HasEnded status.ReadFault (Script (Live universes) form) bytes left held held' × (NoneLived form bytes held held' outlets outlets'
-    ⊎ LivesTaken told universes form bytes left held held' outlets outlets')
-HasLived status.InputTooLong told universes form bytes left held held' outlets outlets' =
+    ⊎ LivesTaken ample told universes form bytes left held held' outlets outlets')
+HasLived ample status.InputTooLong told universes form bytes left held held' outlets outlets' =
     HasEnded status.InputTooLong (Script (Live universes) form) bytes left held held' × (NoneLived form bytes held held' outlets outlets'
-    ⊎ LivesTaken told universes form bytes left held held' outlets outlets')
-HasLived status.WriteFault told universes form bytes left held held' outlets outlets' =
+    ⊎ LivesTaken ample told universes form bytes left held held' outlets outlets')
+HasLived ample status.WriteFault told universes form bytes left held held' outlets outlets' =
     HasEnded status.WriteFault (Script (Live universes) form) bytes left held held' × (NoneLived form bytes held held' outlets outlets'
-    ⊎ LivesInFront told universes form bytes held held' outlets outlets')
-HasLived status.Memory told universes form bytes left held held' outlets outlets' =
+    ⊎ LivesInFront ample told universes form bytes held held' outlets outlets')
+HasLived ample status.Memory told universes form bytes left held held' outlets outlets' =
     HasEnded status.Memory (Script (Live universes) form) bytes left held held' × (NoneLived form bytes held held' outlets outlets'
-    ⊎ LivesInFront told universes form bytes held held' outlets outlets')
-HasLived other told universes form bytes left held held' outlets outlets' = ⊥
+    ⊎ LivesInFront ample told universes form bytes held held' outlets outlets')
+HasLived ample other told universes form bytes left held held' outlets outlets' = ⊥
 
 -- the outlets got what they were to get of some published commands over one show
 pub record ArePlayed {K : Type 0} (told : ToldBySink K) (universes : ℕ) (outlets outlets' : List (Option K)) : Type 0 where
@@ -203,6 +204,28 @@ pub record OutletFailed {K : Type 0} (told : ToldBySink K) (outlets outlets' : L
   pub before : slice_get outlets place ≡ Some (Some start)
   pub after : slice_get outlets' place ≡ Some (Some new)
   pub rose : Rose (told.faults start) (told.faults new)
+
+-- the count of one of the outlets rose of how often it was out of memory
+pub record OutletWanted {K : Type 0} (told : ToldBySink K) (outlets outlets' : List (Option K)) : Type 0 where
+  pub place : ℕ
+  pub start : K
+  pub new : K
+  pub before : slice_get outlets place ≡ Some (Some start)
+  pub after : slice_get outlets' place ≡ Some (Some new)
+  pub rose : Rose (told.wants start) (told.wants new)
+
+-- The heap refused some, or the writer's did, or the output or an outlet itself was out of memory.
+abbrev pub LiveRunsShort : {O K : Type 0} → ToldBySink O → ToldBySink K → (refusals refusals' writers writers' : ℕ) → (output output' : O)
+    → (outlets outlets' : List (Option K)) → Type 0
+LiveRunsShort told_out told refusals refusals' writers writers' output output' outlets outlets' =
+    (Rose refusals refusals' ⊎ Rose writers writers')
+    ⊎ (Rose (told_out.wants output) (told_out.wants output') ⊎ OutletWanted told outlets outlets')
+
+-- Memory is told only there.
+abbrev pub WantsLive : {O K : Type 0} → ToldBySink O → ToldBySink K → (refusals refusals' writers writers' : ℕ) → (output output' : O)
+    → (outlets outlets' : List (Option K)) → Status → Type 0
+WantsLive told_out told refusals refusals' writers writers' output output' outlets outlets' s =
+    s ≡ status.Memory → LiveRunsShort told_out told refusals refusals' writers writers' output output' outlets outlets'
 
 -- ReadFault comes only where the count of failed reads rose, and WriteFault only where the output's or an outlet's of failed writes did.
 abbrev pub HasLiveCause : {K : Type 0} → ToldBySink K → Status → (reads reads' writes writes' : ℕ) → (outlets outlets' : List (Option K))
@@ -237,11 +260,11 @@ TellsRun (Err fault) results unsent s = s ≡ status_for {A = Tally} (Err fault)
 
 -- A script was answered to its end, and the outlets got what was published of the commands that it came to; and so much is told of the
 -- outlets' faults and of how many commands were never published.
-pub record PlaysToEnd {K : Type 0} (Told : List (Option SinkFault) → ℕ → Type 0) (outlet_told : ToldBySink K)
+pub record PlaysToEnd {K : Type 0} (ample : Bool) (Told : List (Option SinkFault) → ℕ → Type 0) (outlet_told : ToldBySink K)
     (show : Show) (universes : ℕ) (script : List (List ℕ)) (held held' : Known) (outlets outlets' : List (Option K))
     : Type 0 where
   pub failures : List (Option ℕ)
-  pub allows : LiveAllows show script failures (live_session show script failures).state.accepted
+  pub allows : LiveAllows ample show script failures (live_session show script failures).state.accepted
   pub text : Appends held held' (live_session show script failures).text
   pub served : AreServed outlet_told show universes outlets outlets' (live_session show script failures).state.accepted
   pub told : Told served.got.results (length served.held_back)
@@ -265,10 +288,10 @@ DecidesInOrder status.Memory reads reads' told output output' outlets outlets' T
 DecidesInOrder other reads reads' told output output' outlets outlets' ToEnd = Unit {0}
 
 -- The same of an input: its show was read, and the script behind it was played to its end, within the limit of the input.
-pub record LivesToEnd {K : Type 0} (Told : List (Option SinkFault) → ℕ → Type 0) (told : ToldBySink K)
+pub record LivesToEnd {K : Type 0} (ample : Bool) (Told : List (Option SinkFault) → ℕ → Type 0) (told : ToldBySink K)
     (universes : ℕ) (form : Form) (bytes : List ℕ) (held held' : Known) (outlets outlets' : List (Option K))
     : Type 0 where
   pub reading : Reading
   pub read : reads form bytes ≡ Ok reading
-  pub plays : PlaysToEnd Told told reading.show universes (script_of bytes) held held' outlets outlets'
+  pub plays : PlaysToEnd ample Told told reading.show universes (script_of bytes) held held' outlets outlets'
   pub within : length (input_wanted form bytes) ≤ INPUT_BYTES

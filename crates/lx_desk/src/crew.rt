@@ -1,22 +1,23 @@
 //! The job `crew`: the scripts of several operators at the same time, over a show.
 
-ghost use Rattle.std.specs.Prelude.{◌≡◌, ◌≢◌, ◌≤◌, ℕ, IfSome, IsSome, Some, length};
+ghost use Rattle.std.specs.Prelude.{◌≡◌, ◌≢◌, ◌≤◌, ℕ, true, false, IfSome, IsSome, Some, length};
 ghost use Rattle.lx_base.specs.declared.TheConstants.{OPERATORS};
 ghost use Rattle.lx_io.specs.Causes.{Rose};
 ghost use Rattle.lx_spec.specs.declared.Job.TheVariants.{Crew};
 ghost use Rattle.lx_spec.specs.Reading.{reads};
 ghost use Rattle.lx_base.specs.Places.{EachAt};
+ghost use Rattle.lx_session.specs.Spared.{HasStood};
 ghost use Rattle.lx_desk.specs.Crew.{HasCrewCause, HasCrewEnded, KeepsOperators, KeepsPlaces, OperatorFailed, ServesOrWants};
-ghost use Rattle.lx_desk.specs.Finished.{Finishes, HasWanted};
-ghost use Rattle.lx_desk.specs.Crew.{TellsCrew, TellsOperators, WritesCrewFront, WritesFirstLines};
+ghost use Rattle.lx_desk.specs.Crew.{TellsCrew, TellsOperators, WantsCrew, WritesCrewFront, WritesFirstLines};
+ghost use Rattle.lx_desk.specs.Finished.{ByMemory, Finishes, HasWanted};
 
 use crate::desk::Status;
 use crate::refuse::refuse;
 use lx_console::Console;
-use lx_crew::{Crewed, OperatorFault, crew};
-use lx_io::{Sink, SinkFault, Source};
+use lx_crew::{Crewed, OperatorFault, QueueHeap, crew_in};
+use lx_io::{Heap, Sink, SinkFault, Source, SystemHeap};
 use lx_lex::Lines;
-use lx_reader::read_show;
+use lx_reader::read_show_in;
 use lx_show::Show;
 use lx_spec::Form;
 use std::alloc::Global;
@@ -47,7 +48,7 @@ pub fn run_crew<R: Threads + Wait + Sync, I: Source, S: Source + Send + Drop, K:
     requires full { EachAt (λ place source. IsSome source) operators.old }
     ensures words { KeepsOperators (Some (Crew count form)) result input.old input.new output.old output.new operators.old operators.new }
     ensures ended { IfSome (I.left input.old)
-        (λ bytes. HasCrewEnded S.Source count form bytes (I.left input.new) operators.old operators.new
+        (λ bytes. HasCrewEnded false S.Source count form bytes (I.left input.new) operators.old operators.new
         (K.holds output.old) (K.holds output.new) result) }
     ensures prefix { IfSome (I.left input.old)
         (λ bytes. WritesCrewFront S.Source count operators.old (K.holds output.old) (K.holds output.new) (reads form bytes)) }
@@ -56,17 +57,72 @@ pub fn run_crew<R: Threads + Wait + Sync, I: Source, S: Source + Send + Drop, K:
     ensures finished { Finishes (I.faults input.old) (I.faults input.new) K.Sink output.old output.new result }
     ensures memory { HasWanted K.Sink output.old output.new result }
 {
+    run_crew_in(
+        rt,
+        &mut SystemHeap::new(alloc),
+        &mut QueueHeap::new(alloc),
+        count,
+        form,
+        input,
+        output,
+        operators,
+    )
+}
+
+/// Serves the operators 1 to `count` over a show as `run_crew` does, with the memory of these heaps: the first's for the show and its
+/// edits, and the queue's for what the lines go through.
+///
+/// Where the heap refused nothing no edit was refused for want of memory. Memory is told only where the heap refused some, or the
+/// queue's did, or where the output itself is out of memory.
+pub fn run_crew_in<
+    R: Threads + Wait + Sync,
+    H: Heap + Send,
+    I: Source,
+    S: Source + Send + Drop,
+    K: Sink + Send,
+>(
+    rt: &R,
+    heap: &mut H,
+    queues: &mut QueueHeap,
+    count: u8,
+    form: Form,
+    input: &mut I,
+    output: &mut K,
+    operators: &mut [Option<S>],
+) -> Status
+    requires some { 1 ≤ count }
+    requires most { count ≤ OPERATORS }
+    requires all { length operators.old ≡ OPERATORS }
+    requires full { EachAt (λ place source. IsSome source) operators.old }
+    ensures words { KeepsOperators (Some (Crew count form)) result input.old input.new output.old output.new operators.old operators.new }
+    ensures ended { IfSome (I.left input.old)
+        (λ bytes. HasCrewEnded false S.Source count form bytes (I.left input.new) operators.old operators.new
+        (K.holds output.old) (K.holds output.new) result) }
+    ensures spared { HasStood (H.refusals heap.old) (H.refusals heap.new) → IfSome (I.left input.old)
+        (λ bytes. HasCrewEnded true S.Source count form bytes (I.left input.new) operators.old operators.new
+        (K.holds output.old) (K.holds output.new) result) }
+    ensures prefix { IfSome (I.left input.old)
+        (λ bytes. WritesCrewFront S.Source count operators.old (K.holds output.old) (K.holds output.new) (reads form bytes)) }
+    ensures cause { HasCrewCause S.Source result (I.faults input.old) (I.faults input.new) (K.faults output.old) (K.faults output.new)
+        count operators.old operators.new }
+    ensures finished { Finishes (I.faults input.old) (I.faults input.new) K.Sink output.old output.new result }
+    ensures memory { HasWanted K.Sink output.old output.new result }
+    ensures wanted { WantsCrew K.Sink (H.refusals heap.old) (H.refusals heap.new) queues.old queues.new output.old output.new result }
+    ensures later { H.refusals heap.old ≤ H.refusals heap.new }
+    ensures queues_later { queues.old ≤ queues.new }
+{
     let mut lines = Lines::new(input);
-    match read_show(alloc, &mut lines, form) {
-        Ok(loaded) => serve(rt, alloc, count, loaded.show, output, operators),
+    match read_show_in(heap, &mut lines, form) {
+        Ok(loaded) => serve(rt, heap, queues, count, loaded.show, output, operators),
         Err(fault) => refuse(fault, output),
     }
 }
 
 /// Serves the first operators over a show, from its opening on.
-fn serve<R: Threads + Wait + Sync, S: Source + Send + Drop, K: Sink + Send>(
+fn serve<R: Threads + Wait + Sync, H: Heap + Send, S: Source + Send + Drop, K: Sink + Send>(
     rt: &R,
-    alloc: Global,
+    heap: &mut H,
+    queues: &mut QueueHeap,
     count: u8,
     show: Show,
     output: &mut K,
@@ -79,18 +135,22 @@ fn serve<R: Threads + Wait + Sync, S: Source + Send + Drop, K: Sink + Send>(
     ensures usage { result ≢ Status.Usage }
     ensures live { result ≢ Status.Live }
     ensures places { KeepsPlaces count operators.old operators.new }
-    ensures served { ServesOrWants S.Source show count operators.old operators.new (K.holds output.old) (K.holds output.new) result }
+    ensures served { ByMemory (H.refusals heap.old) (H.refusals heap.new) (λ ample. ServesOrWants ample S.Source show count operators.old
+        operators.new (K.holds output.old) (K.holds output.new) result) }
     ensures prefix { WritesFirstLines S.Source show count operators.old (K.holds output.old) (K.holds output.new) }
     ensures read { result ≡ Status.ReadFault → OperatorFailed S.Source count operators.old operators.new }
     ensures write { result ≡ Status.WriteFault → Rose (K.faults output.old) (K.faults output.new) }
     ensures finished { (reads : ℕ) → Finishes reads reads K.Sink output.old output.new result }
     ensures memory { HasWanted K.Sink output.old output.new result }
+    ensures wanted { WantsCrew K.Sink (H.refusals heap.old) (H.refusals heap.new) queues.old queues.new output.old output.new result }
+    ensures later { H.refusals heap.old ≤ H.refusals heap.new }
+    ensures queues_later { queues.old ≤ queues.new }
 {
-    let Ok(mut console) = Console::open(alloc, show) else {
+    let Ok(mut console) = Console::open_in(heap, show) else {
         return Status::Memory;
     };
     let (used, _others) = operators.split_at_mut(count as usize);
-    match crew(rt, alloc, &mut console, used, output) {
+    match crew_in(rt, heap, queues, &mut console, used, output) {
         Ok(crewed) => status_of_crew(&crewed),
         Err(_) => Status::Memory,
     }

@@ -1,14 +1,15 @@
 //! The job `run`: a script over the show that stands before it, played live.
 
-ghost use Rattle.std.specs.Prelude.{◌≡◌, ◌≢◌, ◌≤◌, ◌+◌, ◌⊎◌, IfSome, Some, length};
+ghost use Rattle.std.specs.Prelude.{◌≡◌, ◌≢◌, ◌≤◌, ◌+◌, ◌⊎◌, true, false, IfSome, Some, length};
 ghost use Rattle.lx_base.specs.declared.TheConstants.{INPUT_BYTES, UNIVERSES};
 ghost use Rattle.lx_lex.specs.Unread.{CanAdvance, SameSource, bytes_taken, source_faults, source_left, unread};
 ghost use Rattle.lx_spec.specs.declared.Job.TheVariants.{Script};
 ghost use Rattle.lx_spec.specs.declared.ScriptKind.TheVariants.{Live};
 ghost use Rattle.lx_workers.specs.Places.{IsFull};
-ghost use Rattle.lx_desk.specs.Live.{HasLived, HasPlayedLive, KeepsOutlets, HasLiveCause};
+ghost use Rattle.lx_session.specs.Spared.{HasStood};
+ghost use Rattle.lx_desk.specs.Live.{HasLived, HasPlayedLive, KeepsOutlets, HasLiveCause, WantsLive};
 ghost use Rattle.lx_desk.specs.Live.{ArePlayed, TellsOutlets, TellsRun, DecidesInOrder, LivesToEnd, PlaysToEnd};
-ghost use Rattle.lx_desk.specs.Finished.{Finishes};
+ghost use Rattle.lx_desk.specs.Finished.{ByMemory, Finishes};
 ghost use Rattle.lx_spec.specs.Text.{lines_of};
 ghost use Rattle.lx_spec.specs.Session.{bytes_wanted};
 
@@ -16,12 +17,12 @@ use crate::desk::Status;
 use crate::play::status_of;
 use crate::refuse::refuse;
 use lx_console::Console;
-use lx_io::{Pace, Sink, SinkFault, Source};
+use lx_io::{Heap, Pace, Sink, SinkFault, Source, SystemHeap};
 use lx_lex::Lines;
-use lx_reader::read_show;
+use lx_reader::read_show_in;
 use lx_show::Show;
 use lx_spec::Form;
-use lx_workers::{LiveOutcome, OUTLETS, play};
+use lx_workers::{LiveOutcome, OUTLETS, WriterHeap, play_in};
 use std::alloc::Global;
 use std::sync::Wait;
 use std::thread::Threads;
@@ -59,23 +60,90 @@ pub fn run_live<
     ensures outlets { KeepsOutlets K.Sink (Some (Script (Live universes) form)) result input.old input.new output.old
         output.new outlets.old outlets.new }
     ensures ended { IfSome (S.left input.old)
-        (λ bytes. HasLived result K.Sink universes form bytes (S.left input.new) (O.holds output.old)
+        (λ bytes. HasLived false result K.Sink universes form bytes (S.left input.new) (O.holds output.old)
         (O.holds output.new) outlets.old outlets.new) }
     ensures cause { HasLiveCause K.Sink result (S.faults input.old) (S.faults input.new) (O.faults output.old) (O.faults output.new)
         outlets.old outlets.new }
     ensures order { IfSome (S.left input.old)
         (λ bytes. DecidesInOrder result (S.faults input.old) (S.faults input.new) O.Sink output.old output.new outlets.old
         outlets.new
-        (λ Told. LivesToEnd Told K.Sink universes form bytes (O.holds output.old) (O.holds output.new)
+        (λ Told. LivesToEnd false Told K.Sink universes form bytes (O.holds output.old) (O.holds output.new)
         outlets.old outlets.new)) }
     ensures finished { Finishes (S.faults input.old) (S.faults input.new) O.Sink output.old output.new result }
 {
+    run_live_in(
+        rt,
+        &mut SystemHeap::new(alloc),
+        &mut WriterHeap::new(alloc),
+        universes,
+        form,
+        input,
+        output,
+        outlets,
+        pace,
+    )
+}
+
+/// Reads a show and plays the script that follows it as `run_live` does, with the memory of these heaps: the first's for the show and
+/// its edits, and the writer's for what is published.
+///
+/// Where the heap refused nothing no edit was refused for want of memory, as long as fewer than 2^62 commands were accepted. Memory is
+/// told only where the heap refused some, or the writer's did, or where the output or an outlet itself is out of memory.
+pub fn run_live_in<
+    R: Threads + Wait + Sync,
+    H: Heap + Send,
+    S: Source + Send,
+    O: Sink + Send,
+    K: Sink + Send + Drop,
+    C: Pace + Sync,
+>(
+    rt: &R,
+    heap: &mut H,
+    writers: &mut WriterHeap,
+    universes: u8,
+    form: Form,
+    input: &mut S,
+    output: &mut O,
+    outlets: &mut [Option<K>],
+    pace: &C,
+) -> Status
+    requires some { 1 ≤ universes }
+    requires most { universes ≤ UNIVERSES }
+    requires all { length outlets.old ≡ UNIVERSES }
+    requires full { IsFull outlets.old }
+    ensures outlets { KeepsOutlets K.Sink (Some (Script (Live universes) form)) result input.old input.new output.old
+        output.new outlets.old outlets.new }
+    ensures ended { IfSome (S.left input.old)
+        (λ bytes. HasLived false result K.Sink universes form bytes (S.left input.new) (O.holds output.old)
+        (O.holds output.new) outlets.old outlets.new) }
+    ensures spared { HasStood (H.refusals heap.old) (H.refusals heap.new) → IfSome (S.left input.old)
+        (λ bytes. HasLived true result K.Sink universes form bytes (S.left input.new) (O.holds output.old)
+        (O.holds output.new) outlets.old outlets.new) }
+    ensures cause { HasLiveCause K.Sink result (S.faults input.old) (S.faults input.new) (O.faults output.old) (O.faults output.new)
+        outlets.old outlets.new }
+    ensures order { IfSome (S.left input.old)
+        (λ bytes. DecidesInOrder result (S.faults input.old) (S.faults input.new) O.Sink output.old output.new outlets.old
+        outlets.new
+        (λ Told. LivesToEnd false Told K.Sink universes form bytes (O.holds output.old) (O.holds output.new)
+        outlets.old outlets.new)) }
+    ensures spared_order { HasStood (H.refusals heap.old) (H.refusals heap.new) → IfSome (S.left input.old)
+        (λ bytes. DecidesInOrder result (S.faults input.old) (S.faults input.new) O.Sink output.old output.new outlets.old
+        outlets.new
+        (λ Told. LivesToEnd true Told K.Sink universes form bytes (O.holds output.old) (O.holds output.new)
+        outlets.old outlets.new)) }
+    ensures finished { Finishes (S.faults input.old) (S.faults input.new) O.Sink output.old output.new result }
+    ensures wanted { WantsLive O.Sink K.Sink (H.refusals heap.old) (H.refusals heap.new) writers.old writers.new output.old output.new
+        outlets.old outlets.new result }
+    ensures later { H.refusals heap.old ≤ H.refusals heap.new }
+    ensures writers_later { writers.old ≤ writers.new }
+{
     let mut lines = Lines::new(input);
-    match read_show(alloc, &mut lines, form) {
+    match read_show_in(heap, &mut lines, form) {
         Ok(loaded) => {
             play_live(
                 rt,
-                alloc,
+                heap,
+                writers,
                 universes,
                 loaded.show,
                 &mut lines,
@@ -91,13 +159,15 @@ pub fn run_live<
 /// Plays the script that is left over a show, from its opening on, with the first outlets.
 fn play_live<
     R: Threads + Wait + Sync,
+    H: Heap + Send,
     S: Source + Send,
     O: Sink + Send,
     K: Sink + Send + Drop,
     C: Pace + Sync,
 >(
     rt: &R,
-    alloc: Global,
+    heap: &mut H,
+    writers: &mut WriterHeap,
     universes: u8,
     show: Show,
     lines: &mut Lines<S>,
@@ -114,26 +184,30 @@ fn play_live<
     ensures same_source { SameSource lines.old lines.new }
     ensures usage { result ≢ Status.Usage }
     ensures outlets { (outlets.new ≡ outlets.old) ⊎ ArePlayed K.Sink universes outlets.old outlets.new }
-    ensures ended { IfSome (unread S.Source lines.old)
-        (λ bytes. HasPlayedLive result K.Sink show universes (bytes_taken lines.old) bytes
-        (source_left S.Source lines.new) (O.holds output.old) (O.holds output.new) outlets.old outlets.new) }
+    ensures ended { ByMemory (H.refusals heap.old) (H.refusals heap.new) (λ ample. IfSome (unread S.Source lines.old)
+        (λ bytes. HasPlayedLive ample result K.Sink show universes (bytes_taken lines.old) bytes
+        (source_left S.Source lines.new) (O.holds output.old) (O.holds output.new) outlets.old outlets.new)) }
     ensures later { source_faults S.Source lines.old ≤ source_faults S.Source lines.new }
     ensures cause { HasLiveCause K.Sink result (source_faults S.Source lines.old) (source_faults S.Source lines.new)
         (O.faults output.old) (O.faults output.new) outlets.old outlets.new }
-    ensures order { IfSome (unread S.Source lines.old)
+    ensures order { ByMemory (H.refusals heap.old) (H.refusals heap.new) (λ ample. IfSome (unread S.Source lines.old)
         (λ bytes. DecidesInOrder result (source_faults S.Source lines.old) (source_faults S.Source lines.new) O.Sink output.old
         output.new outlets.old outlets.new
-        (λ Told. PlaysToEnd Told K.Sink show universes (lines_of bytes) (O.holds output.old)
+        (λ Told. PlaysToEnd ample Told K.Sink show universes (lines_of bytes) (O.holds output.old)
         (O.holds output.new) outlets.old outlets.new
-        × (bytes_taken lines.old + length (bytes_wanted bytes) ≤ INPUT_BYTES))) }
+        × (bytes_taken lines.old + length (bytes_wanted bytes) ≤ INPUT_BYTES)))) }
     ensures finished { Finishes (source_faults S.Source lines.old) (source_faults S.Source lines.new) O.Sink output.old
         output.new result }
+    ensures wanted { WantsLive O.Sink K.Sink (H.refusals heap.old) (H.refusals heap.new) writers.old writers.new output.old output.new
+        outlets.old outlets.new result }
+    ensures heap_later { H.refusals heap.old ≤ H.refusals heap.new }
+    ensures writers_later { writers.old ≤ writers.new }
 {
-    let Ok(mut console) = Console::open(alloc, show) else {
+    let Ok(mut console) = Console::open_in(heap, show) else {
         return Status::Memory;
     };
     let (used, _others) = outlets.split_at_mut(universes as usize);
-    match play(rt, alloc, &mut console, lines, output, used, pace) {
+    match play_in(rt, heap, writers, &mut console, lines, output, used, pace) {
         Ok(played) => status_of_run(&played),
         Err(_) => Status::Memory,
     }

@@ -1,7 +1,7 @@
 -- What holds of the job that words name holds of the words.
 use Rattle.lx_program.proofs.Imports.{◌≡◌, Option, Some, None, IfSome, List, ℕ, sym, subst, Form, Job, Check, Sheet, Make, Script, Crew, Render, Live}
 use Rattle.lx_program.proofs.Imports.{Undo, Two, job_of, given_to}
-use Rattle.lx_program.specs.NamedJob.{OfCrew, OfJob, OfRun}
+use Rattle.lx_program.specs.NamedJob.{NamesNoCrew, NamesNoRun, OfCrew, OfJob, OfRun}
 
 pub of_job : (ws : List (List ℕ)) (left : Option (List ℕ)) (P : Job → List ℕ → Type 0) (job : Job) → job_of ws ≡ Some job
     → IfSome (given_to job left) (P job) → OfJob ws left P
@@ -41,3 +41,23 @@ of_each_run (Some (Script (Live universes) form)) left P p = each_given left (P 
 of_each_run (Some (Script Undo form)) left P p = tt
 of_each_run (Some (Script Two form)) left P p = tt
 of_each_run (Some (Crew count form)) left P p = tt
+
+-- What is said of a live run, or of a crew, says nothing of words that name none.
+pub of_no_run : (o : Option Job) (left : Option (List ℕ)) (P : ℕ → Form → List ℕ → Type 0) → NamesNoRun o → OfRun o left P
+of_no_run None left P none = tt
+of_no_run (Some (Check form)) left P none = tt
+of_no_run (Some (Sheet form)) left P none = tt
+of_no_run (Some (Make n)) left P none = tt
+of_no_run (Some (Script Render form)) left P none = tt
+of_no_run (Some (Script (Live universes) form)) left P none = absurd none
+of_no_run (Some (Script Undo form)) left P none = tt
+of_no_run (Some (Script Two form)) left P none = tt
+of_no_run (Some (Crew count form)) left P none = tt
+
+pub of_no_crew : (o : Option Job) (left : Option (List ℕ)) (P : ℕ → Form → List ℕ → Type 0) → NamesNoCrew o → OfCrew o left P
+of_no_crew None left P none = tt
+of_no_crew (Some (Check form)) left P none = tt
+of_no_crew (Some (Sheet form)) left P none = tt
+of_no_crew (Some (Make n)) left P none = tt
+of_no_crew (Some (Script kind form)) left P none = tt
+of_no_crew (Some (Crew count form)) left P none = absurd none

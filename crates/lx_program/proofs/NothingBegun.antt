@@ -1,22 +1,58 @@
--- What holds of a live run and of a crew that were not begun, since memory ran out.
-use Rattle.lx_program.proofs.Imports.{Option, List, ℕ, refl, inl, false, Form, Script, Crew, Live, unwritten}
+-- What holds of a live run and of a crew that were not begun, since memory ran out or the words name none.
+use Rattle.std.proofs.Common.{◌⊎◌, ◌≢◌, inr, IsSome}
+use Rattle.lx_program.proofs.Imports.{◌≡◌, ◌∙◌, Option, Some, None, List, ℕ, Bool, refl, sym, inl, false, Form, Job, Check, Sheet, Make, Script, Crew}
+use Rattle.lx_program.proofs.Imports.{Render, Live, Undo, Two, unwritten}
+use Rattle.lx_base.specs.Places.{EachAt}
+use Rattle.lx_desk.specs.declared.desk.Status.{Status}
+use Rattle.lx_program.specs.NamedJob.{NamesNoCrew, NamesNoRun}
 use Rattle.lx_desk.specs.declared.desk.Status.TheVariants as status
-use Rattle.lx_desk.specs.Live.{HasLived}
-use Rattle.lx_desk.specs.Crew.{HasCrewEnded}
+use Rattle.lx_desk.specs.Live.{HasLived, KeepsOutlets}
+use Rattle.lx_desk.specs.Crew.{HasCrewEnded, KeepsOperators}
 use Rattle.lx_io.specs.Told.{ToldBySink, ToldBySource}
 
-pub none_lived : {K : Type 0} (told : ToldBySink K) (universes : ℕ) (form : Form)
+pub none_lived : {K : Type 0} (ample : Bool) (told : ToldBySink K) (universes : ℕ) (form : Form)
     (bytes : List ℕ) (left held : Option (List ℕ)) (outlets : List (Option K))
-    → HasLived status.Memory told universes form bytes left held held outlets outlets
-none_lived told universes form bytes left held outlets =
+    → HasLived ample status.Memory told universes form bytes left held held outlets outlets
+none_lived ample told universes form bytes left held outlets =
     (unwritten false (Script (Live universes) form) bytes held, inl (refl, λ read. refl))
 
-pub none_served : {S : Type 0} (told : ToldBySource S) (count : ℕ) (form : Form) (bytes : List ℕ)
+pub none_served : {S : Type 0} (ample : Bool) (told : ToldBySource S) (count : ℕ) (form : Form) (bytes : List ℕ)
     (left held : Option (List ℕ)) (operators : List (Option S))
-    → HasCrewEnded told count form bytes left operators operators held held status.Memory
-none_served told count form bytes left held operators = inl (record {
+    → HasCrewEnded ample told count form bytes left operators operators held held status.Memory
+none_served ample told count form bytes left held operators = inl (record {
   isnt_ok = λ odd. cc;
   isnt_live = λ odd. cc;
   ended = unwritten false (Crew count form) bytes held;
   untouched = refl;
 })
+
+-- Each outlet is as it was, and each operator's source.
+pub keeps_outlets : {I O K : Type 0} (told : ToldBySink K) (o : Option Job) (s : Status) (input : I) (output : O) (outlets : List (Option K))
+    → (s ≡ status.Usage) ⊎ (s ≡ status.Memory) → (s ≡ status.Usage → NamesNoRun o)
+    → KeepsOutlets told o s input input output output outlets outlets
+keeps_outlets told None s input output outlets which none = (which, (refl, (refl, refl)))
+keeps_outlets told (Some (Check form)) s input output outlets which none = (which, (refl, (refl, refl)))
+keeps_outlets told (Some (Sheet form)) s input output outlets which none = (which, (refl, (refl, refl)))
+keeps_outlets told (Some (Make n)) s input output outlets which none = (which, (refl, (refl, refl)))
+keeps_outlets told (Some (Script Render form)) s input output outlets which none = (which, (refl, (refl, refl)))
+keeps_outlets told (Some (Script (Live universes) form)) s input output outlets which none = (none, inl refl)
+keeps_outlets told (Some (Script Undo form)) s input output outlets which none = (which, (refl, (refl, refl)))
+keeps_outlets told (Some (Script Two form)) s input output outlets which none = (which, (refl, (refl, refl)))
+keeps_outlets told (Some (Crew count form)) s input output outlets which none = (which, (refl, (refl, refl)))
+
+not_live : (s : Status) → (s ≡ status.Usage) ⊎ (s ≡ status.Memory) → s ≢ status.Live
+not_live s which is = elim which [
+  | inl usage ↦ let odd : status.Usage ≡ status.Live = sym usage ∙ is in cc
+  | inr memory ↦ let odd : status.Memory ≡ status.Live = sym memory ∙ is in cc
+]
+
+pub keeps_operators : {I O S : Type 0} (o : Option Job) (s : Status) (input : I) (output : O) (operators : List (Option S))
+    → (s ≡ status.Usage) ⊎ (s ≡ status.Memory) → (s ≡ status.Usage → NamesNoCrew o) → EachAt (λ place source. IsSome source) operators
+    → KeepsOperators o s input input output output operators operators
+keeps_operators None s input output operators which none full = (which, (refl, (refl, refl)))
+keeps_operators (Some (Check form)) s input output operators which none full = (which, (refl, (refl, refl)))
+keeps_operators (Some (Sheet form)) s input output operators which none full = (which, (refl, (refl, refl)))
+keeps_operators (Some (Make n)) s input output operators which none full = (which, (refl, (refl, refl)))
+keeps_operators (Some (Script kind form)) s input output operators which none full = (which, (refl, (refl, refl)))
+keeps_operators (Some (Crew count form)) s input output operators which none full =
+    (none, not_live s which, record { same_places = refl; full = full; others = refl })

@@ -4,15 +4,21 @@
 #![tactic(auto)]
 
 mod calls;
+mod crew;
 mod exit;
+mod live;
 mod operators;
 mod pace;
 mod universes;
 mod words;
+mod words_heap;
 
-pub use calls::{desk, desk_crew, desk_in, desk_live};
+pub use calls::{desk, desk_in};
+pub use crew::{desk_crew, desk_crew_in};
 pub use exit::exit_of;
+pub use live::{desk_live, desk_live_in};
 pub use operators::{OperatorFile, scripts};
 pub use pace::DeskPace;
 pub use universes::{UniverseFile, files};
-pub use words::{WordsFault, words_of};
+pub use words::{WordsFault, words_of, words_of_in};
+pub use words_heap::WordsHeap;

@@ -2,24 +2,20 @@
 
 ghost use Rattle.std.specs.Prelude.{◌≡◌, ◌≤◌, true, false, None, Some, Err, map, option_map, string_bytes, IfOk, IfErr, IfSome};
 ghost use Rattle.std.specs.List.{list_any};
-ghost use Rattle.clap.specs.Words.{kind_of};
 ghost use Rattle.lx_base.specs.declared.TheConstants.{OPERATORS, UNIVERSES};
 ghost use Rattle.lx_spec.specs.declared.Job.TheVariants.{Crew, Script};
 ghost use Rattle.lx_spec.specs.declared.ScriptKind.TheVariants.{Live};
 ghost use Rattle.lx_spec.specs.Job.{job_of, form_of, number_alone, plain_number, counted_job};
 ghost use Rattle.lx_spec.specs.Phrase.{ended};
 ghost use Rattle.lx_program.specs.NamedJob.{JobInRange, NamesNoCrew, NamesNoRun};
-ghost use Rattle.lx_program.specs.Words.{begins_with_dash, values_of};
+ghost use Rattle.lx_program.specs.Words.{begins_with_dash};
+ghost use Rattle.lx_io.specs.Causes.{HasCauseOf};
 
-use clap::error::ErrorKind;
-use clap::{Arg, ArgAction, ArgMatches, Command, Error};
+use crate::words_heap::{WORD, WordsHeap};
 use lx_base::{CUES, OPERATORS, UNIVERSES};
 use lx_lex::read_whole;
 use lx_spec::{Form, Job, ScriptKind};
 use std::alloc::Global;
-
-/// The name of the argument that has the words as its values.
-const WORD: &str = "word";
 
 /// Why a list of words names no job.
 #[derive(Clone, Copy, Debug, PartialEq, Eq)]
@@ -39,11 +35,22 @@ pub fn words_of(alloc: Global, words: &[String]) -> Result<Job, WordsFault>
     ensures usage { result ≡ Err WordsFault.Usage → job_of (map string_bytes words.now) ≡ None }
     ensures dash { list_any begins_with_dash (map string_bytes words.now) ≡ true → result ≡ Err WordsFault.Usage }
 {
+    words_of_in(&mut WordsHeap::new(alloc), words)
+}
+
+/// The same, with the memory of this heap. `Memory` comes only where it refused some.
+pub fn words_of_in(heap: &mut WordsHeap, words: &[String]) -> Result<Job, WordsFault>
+    ensures job { IfOk result (λ job. job_of (map string_bytes words.now) ≡ Some job) }
+    ensures range { IfOk result JobInRange }
+    ensures usage { result ≡ Err WordsFault.Usage → job_of (map string_bytes words.now) ≡ None }
+    ensures dash { list_any begins_with_dash (map string_bytes words.now) ≡ true → result ≡ Err WordsFault.Usage }
+    ensures cause { HasCauseOf WordsFault.Memory heap.old heap.new result }
+{
     if has_dash(words) {
         return Err(WordsFault::Usage);
     }
     // Every other list is taken, so that nothing but memory can run out.
-    let Ok(matches) = matches_of(alloc, words) else {
+    let Ok(matches) = heap.matches(words) else {
         return Err(WordsFault::Memory);
     };
     let Some(given) = matches.get_strs(WORD) else {
@@ -56,12 +63,13 @@ pub fn words_of(alloc: Global, words: &[String]) -> Result<Job, WordsFault>
 }
 
 /// How many universes are played live, and how the levels are read, where the words name a live run; `Usage` exactly where they name none.
-pub(crate) fn live_run_of(alloc: Global, words: &[String]) -> Result<(u8, Form), WordsFault>
+pub(crate) fn live_run_of(heap: &mut WordsHeap, words: &[String]) -> Result<(u8, Form), WordsFault>
     ensures run { IfOk result (λ named. job_of (map string_bytes words.now) ≡ Some (Script (Live named.0) named.1)) }
     ensures range { IfOk result (λ named. (1 ≤ named.0) × (named.0 ≤ UNIVERSES)) }
     ensures usage { result ≡ Err WordsFault.Usage → NamesNoRun (job_of (map string_bytes words.now)) }
+    ensures cause { HasCauseOf WordsFault.Memory heap.old heap.new result }
 {
-    match words_of(alloc, words)? {
+    match words_of_in(heap, words)? {
         Job::Script(kind, form) => match kind {
             ScriptKind::Live(universes) => Ok((universes, form)),
             ScriptKind::Render | ScriptKind::Undo | ScriptKind::Two => Err(WordsFault::Usage),
@@ -71,12 +79,13 @@ pub(crate) fn live_run_of(alloc: Global, words: &[String]) -> Result<(u8, Form),
 }
 
 /// How many operators there are, and how the levels are read, where the words name a crew; `Usage` exactly where they name none.
-pub(crate) fn crew_of(alloc: Global, words: &[String]) -> Result<(u8, Form), WordsFault>
+pub(crate) fn crew_of(heap: &mut WordsHeap, words: &[String]) -> Result<(u8, Form), WordsFault>
     ensures crew { IfOk result (λ named. job_of (map string_bytes words.now) ≡ Some (Crew named.0 named.1)) }
     ensures range { IfOk result (λ named. (1 ≤ named.0) × (named.0 ≤ OPERATORS)) }
     ensures usage { result ≡ Err WordsFault.Usage → NamesNoCrew (job_of (map string_bytes words.now)) }
+    ensures cause { HasCauseOf WordsFault.Memory heap.old heap.new result }
 {
-    match words_of(alloc, words)? {
+    match words_of_in(heap, words)? {
         Job::Crew(operators, form) => Ok((operators, form)),
         Job::Check(_) | Job::Sheet(_) | Job::Make(_) | Job::Script(..) => Err(WordsFault::Usage),
     }
@@ -98,23 +107,6 @@ fn begins_with_dash(word: &str) -> bool
     ensures { result ≡ begins_with_dash word.now }
 {
     matches!(word.as_bytes(), [b'-', ..])
-}
-
-/// The words as the values of one argument. Out of memory is the one error.
-fn matches_of<'a>(alloc: Global, words: &'a [String]) -> Result<ArgMatches<'a>, Error>
-    requires { list_any begins_with_dash (map string_bytes words.now) ≡ false }
-    ensures values { IfOk result (λ matches. values_of matches ≡ map string_bytes words.now) }
-    ensures memory { IfErr result (λ error. kind_of error ≡ ErrorKind.OutOfMemory) }
-{
-    let count = words.len();
-    prove!(count <= usize::MAX);
-    let word = Arg::new(alloc, WORD)
-        .num_args(1..)
-        .action(ArgAction::Append);
-    let command = Command::new(alloc, "cuedesk")
-        .no_binary_name(true)
-        .arg(word)?;
-    command.try_get_matches_from(words)
 }
 
 /// The job that the words name.

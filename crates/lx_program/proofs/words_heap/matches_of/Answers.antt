@@ -4,7 +4,7 @@ use Rattle.std.proofs.lemmas.Result.{IfErr-weaker, IfOk-weaker}
 use Rattle.std.proofs.lemmas.List.{length-map}
 use Rattle.clap.specs.declared.builder.range.ValueRange.{ValueRange}
 use Rattle.lx_program.proofs.ArgumentValues.{the_rule, the_app, is_the_app, are_given, are_taken}
-use Rattle.lx_program.proofs.words.matches_of.Goals as goal
+use Rattle.lx_program.proofs.words_heap.matches_of.Goals as goal
 
 some_is : (o : Option ValueRange) (x : ValueRange) → IsSomeAnd o (λ r. r ≡ x) → o ≡ Some x
 some_is None x p = absurd p
