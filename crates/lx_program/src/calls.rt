@@ -87,7 +87,8 @@ pub fn desk_in<H: Heap, S: Source, K: Sink>(
 
     // Memory is told only where the heap refused some or the output itself is out of memory; or where the words' heap did, before anything
     // was asked of them.
-    ensures wanted { WantsMemoryOrWords K.Sink words_heap.old words_heap.new H.refusals heap.old heap.new input.old input.new output.old output.new result }
+    ensures wanted { WantsMemoryOrWords K.Sink words_heap.old words_heap.new H.refusals heap.old heap.new input.old input.new
+        output.old output.new result }
     ensures dash { list_any begins_with_dash (map string_bytes words.now) ≡ true → result ≡ Status.Usage }
     ensures unread { (cues : ℕ) → job_of (map string_bytes words.now) ≡ Some (Make cues) → input.new ≡ input.old }
     ensures later { H.refusals heap.old ≤ H.refusals heap.new }

@@ -110,8 +110,8 @@ pub fn desk_crew_in<
 
     // Memory is told only where the heap refused some, or the queue's did, or the output itself is out of memory; or where the words' heap
     // did, before anything was asked of them.
-    ensures wanted { WantsCrewOrWords K.Sink words_heap.old words_heap.new H.refusals heap.old heap.new queues.old queues.new input.old input.new output.old output.new
-        operators.old operators.new result }
+    ensures wanted { WantsCrewOrWords K.Sink words_heap.old words_heap.new H.refusals heap.old heap.new queues.old queues.new
+        input.old input.new output.old output.new operators.old operators.new result }
     ensures cause { HasCrewCause S.Source result (I.faults input.old) (I.faults input.new) (K.faults output.old) (K.faults output.new)
         (in_use (job_of (map string_bytes words.now))) operators.old operators.new }
     ensures later { H.refusals heap.old ≤ H.refusals heap.new }

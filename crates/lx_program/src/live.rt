@@ -131,8 +131,8 @@ pub fn desk_live_in<
 
     // Memory is told only where the heap refused some, or the writer's did, or the output or an outlet itself is out of memory; or where
     // the words' heap did, before anything was asked of them.
-    ensures wanted { WantsRunOrWords O.Sink K.Sink words_heap.old words_heap.new H.refusals heap.old heap.new writers.old writers.new input.old input.new output.old
-        output.new outlets.old outlets.new result }
+    ensures wanted { WantsRunOrWords O.Sink K.Sink words_heap.old words_heap.new H.refusals heap.old heap.new writers.old writers.new
+        input.old input.new output.old output.new outlets.old outlets.new result }
     ensures later { H.refusals heap.old ≤ H.refusals heap.new }
     ensures writers_later { writers.old ≤ writers.new }
     ensures words_later { words_heap.old ≤ words_heap.new }

@@ -1,6 +1,6 @@
 //! A live run: the engine, and a worker for each outlet beside it.
-ghost use Rattle.std.specs.Prelude.{◌≡◌, ◌+◌, ◌-◌, ◌<◌, ◌≤◌, ◌⊎◌, [], length, IsSome, IsSomeAnd, IfOk, IfSome, OnOk, OnErr, vec_len, vec_capacity, ℕ, Bool, true, false};
-ghost use Rattle.std.specs.Prelude.{Some, None, slice_get, slice_set, List};
+ghost use Rattle.std.specs.Prelude.{◌≡◌, ◌+◌, ◌-◌, ◌<◌, ◌≤◌, ◌⊎◌, [], length, IsSome, IsSomeAnd, IfOk, IfSome, OnOk, OnErr, vec_len};
+ghost use Rattle.std.specs.Prelude.{vec_capacity, ℕ, Bool, true, false, Some, None, slice_get, slice_set, List};
 ghost use Rattle.std.specs.List.{AllZip};
 ghost use Rattle.lx_base.specs.declared.TheConstants.{INPUT_BYTES};
 ghost use Rattle.lx_workers.specs.declared.playing.TheConstants.{OUTLETS};
