@@ -12,5 +12,6 @@ mod worker;
 
 pub use halt::{Halt, Stop, Watch};
 pub use lane::Lane;
-pub use playing::{LiveOutcome, OUTLETS, play};
+pub use lx_gate::WriterHeap;
+pub use playing::{LiveOutcome, OUTLETS, play, play_in};
 pub use worker::{Served, serve};
