@@ -14,4 +14,4 @@ returns-in-Err-clause-long g c = λ long.
 
 pub returns-in-Err-clause-wanted : goal.returns-in-Err-clause-wanted
 returns-in-Err-clause-wanted g c = λ wanted.
-    c.opened.ensures.wanted.failed (memory_told c.in-Err.fault c.told.result c.told.ensures.status wanted)
+    c.in-Err.ensures.wanted.failed (memory_told c.in-Err.fault c.told.result c.told.ensures.status wanted)
