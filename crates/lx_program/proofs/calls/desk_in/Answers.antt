@@ -62,4 +62,4 @@ returns-in-Err-Memory-clause-spared g c = λ stood.
     (λ job bytes. unwritten true job bytes (g.K.Sink.holds c.args.output.now))
 
 pub returns-in-Err-Memory-clause-wanted : goal.returns-in-Err-Memory-clause-wanted
-returns-in-Err-Memory-clause-wanted g c = λ is. inl (c.words_of_in.ensures.cause.failed refl, (refl, (refl, refl)))
+returns-in-Err-Memory-clause-wanted g c = λ is. inl (c.in-Err-Memory.ensures.cause.failed c.in-Err-Memory.field-0-is, (refl, (refl, refl)))

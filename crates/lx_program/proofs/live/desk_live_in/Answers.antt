@@ -18,7 +18,7 @@ returns-in-Err-Memory-clause-spared g c = λ stood.
     (g.S.Source.left c.args.input.now) (g.O.Sink.holds c.args.output.now) c.args.outlets.now)
 
 pub returns-in-Err-Memory-clause-wanted : goal.returns-in-Err-Memory-clause-wanted
-returns-in-Err-Memory-clause-wanted g c = λ is. inl (c.live_run_of.ensures.cause.failed refl, (refl, (refl, (refl, (refl, refl)))))
+returns-in-Err-Memory-clause-wanted g c = λ is. inl (c.in-Err-Memory.ensures.cause.failed c.in-Err-Memory.field-0-is, (refl, (refl, (refl, (refl, refl)))))
 
 pub returns-in-Ok-clause-wanted : goal.returns-in-Ok-clause-wanted
 returns-in-Ok-clause-wanted g c = λ is. inr (c.run_live_in.ensures.wanted is)
