@@ -92,8 +92,8 @@ pub record ServesNone {S : Type 0} (count : ℕ) (form : Form) (bytes : List ℕ
   pub ended : HasEnded s (Crew count form) bytes left held held'
   pub untouched : operators' ≡ operators
 
-abbrev pub HasCrewEnded : {S : Type 0} → (ample : Bool) → ToldBySource S → ℕ → Form → List ℕ → Known → (operators operators' : List (Option S))
-    → (held held' : Known) → Status → Type 0
+abbrev pub HasCrewEnded : {S : Type 0} → (ample : Bool) → ToldBySource S → ℕ → Form → List ℕ → Known
+    → (operators operators' : List (Option S)) → (held held' : Known) → Status → Type 0
 HasCrewEnded ample told count form bytes left operators operators' held held' s =
     ServesNone count form bytes left operators operators' held held' s
     ⊎ ServesShow ample told count form bytes operators operators' held held' s
