@@ -128,7 +128,7 @@ impl HostDesk {
         ensures taken { result ≡ true → taken_of self.new.taken universe ≡ Some out.new }
         ensures others { (u : ℕ) → 1 ≤ u → u ≢ universe → taken_of self.new.taken u ≡ taken_of self.old.taken u }
         ensures refused { result ≡ false → (out.new ≡ out.old) × (self.new ≡ self.old) }
-        ensures given { 1 ≤ universe → universe ≤ UNIVERSES → length out.old ≡ UNIVERSE_SLOTS → result ≡ true }
+        ensures given { (result ≡ true) ↔ (((1 ≤ universe) × (universe ≤ UNIVERSES)) × (length out.old ≡ UNIVERSE_SLOTS)) }
         ensures kept { (self.new.engine ≡ self.old.engine) × ((self.new.reply ≡ self.old.reply) × (self.new.heap ≡ self.old.heap)) }
     {
         if !is_universe(universe) || out.len() != UNIVERSE_SLOTS {

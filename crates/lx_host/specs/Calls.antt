@@ -1,5 +1,6 @@
 -- What the calls of a desk come to, from what its handle held before to what it holds now.
-use Rattle.std.specs.Prelude.{◌≡◌, ◌≢◌, ◌≤◌, ◌↔◌, ℕ, ◌-◌, min, Bool, true, false, Option, Some, None, Result, Ok, Err, List, length, take, drop, IfSome, OnErr}
+use Rattle.std.specs.Prelude.{◌≡◌, ◌≢◌, ◌≤◌, ◌↔◌, ◌⊎◌, ℕ, ◌-◌, min, Bool, true, false, Option, Some, None, Result, Ok, Err, List, length}
+use Rattle.std.specs.Prelude.{take, drop, IfSome, OnErr}
 use Rattle.std.specs.Result.{IsErr}
 use Rattle.lx_base.specs.declared.TheConstants.{UNIVERSES}
 use Rattle.lx_io.specs.Causes.{Rose}
@@ -25,7 +26,7 @@ use Rattle.lx_embed.specs.TakenSlots.{taken_of}
 use Rattle.lx_embed.specs.Told.{Stands, AcceptedTicks}
 use Rattle.lx_host.specs.declared.status.PlaybackReport.{PlaybackReport}
 use Rattle.lx_host.specs.declared.status.ShowReport.{ShowReport}
-use Rattle.lx_host.specs.declared.status.TheConstants.{OK, MEMORY, QUIT, MORE}
+use Rattle.lx_host.specs.declared.status.TheConstants.{OK, CLOSED, OPEN, MEMORY, SHOW_REFUSED, TOO_LONG, OUT_OF_RANGE, QUIT, MORE}
 use Rattle.lx_host.specs.Told.{show_report, playback_of}
 
 abbrev pub form_of_flag : Bool → Form
@@ -40,6 +41,15 @@ pub record OpensDesk (form : Form) (depth : Option ℕ) (text : List ℕ) (host 
 abbrev pub Opens : Form → Option ℕ → List ℕ → Option HostDesk → Type 0
 Opens form depth text None = ⊥
 Opens form depth text (Some host) = OpensDesk form depth text host
+
+-- the statuses of an opening
+abbrev pub IsOpening : ℕ → Type 0
+IsOpening status = (status ≡ OK) ⊎ ((status ≡ OPEN) ⊎ ((status ≡ SHOW_REFUSED) ⊎ ((status ≡ TOO_LONG) ⊎ (status ≡ MEMORY))))
+
+-- The report is set where a closed desk wasn't opened: to a fault with SHOW_REFUSED, and else to none.
+pub record SetsReport (status : ℕ) (before now : ShowReport) : Type 0 where
+  pub unset : (status ≡ OK) ⊎ (status ≡ OPEN) → now ≡ before
+  pub none : (status ≡ TOO_LONG) ⊎ (status ≡ MEMORY) → now ≡ record { fault = 0; line = 0 }
 
 -- the report is of the text's own fault
 pub record Refused (form : Form) (text : List ℕ) (report : ShowReport) : Type 0 where
@@ -73,6 +83,11 @@ abbrev pub Did : ℕ → Option HostDesk → List ℕ → Option HostDesk → Li
 Did status (Some before) line (Some now) room count = DidLine status before now line room count
 Did status (Some before) line None room count = ⊥
 Did status None line held room count = ⊥
+
+-- nothing is put into the room, and that is told
+pub record HasNone (room room' : List ℕ) (count : ℕ) : Type 0 where
+  pub same : room' ≡ room
+  pub none : count ≡ 0
 
 -- the front of the room has as much of the bytes from a place on as there is and fits: this many of them
 pub record HasPart (bytes : List ℕ) (from : ℕ) (room : List ℕ) (count : ℕ) : Type 0 where
@@ -108,6 +123,10 @@ pub record HandsOutFrame (before : HostDesk) (u : ℕ) (bytes : List ℕ) (now :
 abbrev pub ShowsFrame : Option HostDesk → ℕ → List ℕ → Option HostDesk → Type 0
 ShowsFrame (Some before) u bytes (Some now) = HandsOutFrame before u bytes now
 ShowsFrame held u bytes now = ⊥
+
+-- the statuses of a call that asks for what there may be none of
+abbrev pub TellsRange : ℕ → Type 0
+TellsRange status = (status ≡ OK) ⊎ ((status ≡ OUT_OF_RANGE) ⊎ (status ≡ CLOSED))
 
 -- whether the frame of the universe isn't the one that was taken last
 abbrev pub TellsChange : Option HostDesk → ℕ → Bool → Type 0

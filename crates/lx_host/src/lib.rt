@@ -10,15 +10,15 @@ mod parts;
 mod report;
 mod status;
 
-ghost use Rattle.std.specs.Prelude.{◌≡◌, ◌≢◌, ◌≤◌, ◌<◌, ◌↔◌, IfSome, IfOk, IfErr, None, Some, Bool, is_some, true, false, length, min, take};
+ghost use Rattle.std.specs.Prelude.{◌≡◌, ◌≢◌, ◌≤◌, ◌<◌, ◌↔◌, ◌⊎◌, IfSome, IfOk, IfErr, None, Some, is_some, true, false, length, min, take};
 ghost use Rattle.lx_base.specs.declared.TheConstants.{CUE_MAX, INPUT_BYTES, SUBS, UNIVERSES, UNIVERSE_SLOTS};
 ghost use Rattle.lx_io.specs.Causes.{HasCauseOf, Rose};
 ghost use Rattle.lx_embed.specs.Answered.{is_bare};
 ghost use Rattle.lx_embed.specs.Opened.{RefusesShow};
 ghost use Rattle.lx_embed.specs.ReplyBytes.{reply_bytes};
 ghost use Rattle.lx_host.specs.declared.status.TheConstants.{OK, CLOSED, OPEN, MEMORY, SHOW_REFUSED, TOO_LONG, NOT_A_LINE, AT_END, OUT_OF_RANGE, VERSION};
-ghost use Rattle.lx_host.specs.Calls.{form_of_flag, tells, OpensDesk, Opens, Refused, Did, HasPart, Ticks, IsOver, ShowsFrame};
-ghost use Rattle.lx_host.specs.Calls.{IsChannel, TellsChange, TellsLevel, TellsTracked, TellsFader, TellsState};
+ghost use Rattle.lx_host.specs.Calls.{form_of_flag, tells, IsOpening, OpensDesk, Opens, Refused, SetsReport, Did, HasNone, HasPart, Ticks, IsOver};
+ghost use Rattle.lx_host.specs.Calls.{ShowsFrame, IsChannel, TellsRange, TellsChange, TellsLevel, TellsTracked, TellsFader, TellsState};
 
 use desk::CueDesk;
 use lx_embed::{HostDesk, is_line};
@@ -55,7 +55,9 @@ pub extern "C" fn cuedesk_open(
     ensures opens { result ≡ OK → Opens (form_of_flag states) None text.now desk.new.handle.held }
     ensures refused { result ≡ SHOW_REFUSED → Refused (form_of_flag states) text.now report.new }
     ensures long { result ≡ TOO_LONG → INPUT_BYTES < length text.now }
-    ensures open { is_some desk.old.handle.held ≡ true → (result ≡ OPEN) × (report.new ≡ report.old) }
+    ensures open { (result ≡ OPEN) ↔ (is_some desk.old.handle.held ≡ true) }
+    ensures statuses { IsOpening result }
+    ensures report { SetsReport result report.old report.new }
     ensures same { result ≢ OK → desk.new.handle.held ≡ desk.old.handle.held }
 {
     let mut heap = SystemHeap::new(alloc);
@@ -75,7 +77,9 @@ pub extern "C" fn cuedesk_open_undo(
     ensures opens { result ≡ OK → Opens (form_of_flag states) (Some depth) text.now desk.new.handle.held }
     ensures refused { result ≡ SHOW_REFUSED → Refused (form_of_flag states) text.now report.new }
     ensures long { result ≡ TOO_LONG → INPUT_BYTES < length text.now }
-    ensures open { is_some desk.old.handle.held ≡ true → (result ≡ OPEN) × (report.new ≡ report.old) }
+    ensures open { (result ≡ OPEN) ↔ (is_some desk.old.handle.held ≡ true) }
+    ensures statuses { IsOpening result }
+    ensures report { SetsReport result report.old report.new }
     ensures same { result ≢ OK → desk.new.handle.held ≡ desk.old.handle.held }
 {
     let mut heap = SystemHeap::new(alloc);
@@ -94,7 +98,9 @@ fn open_with<H: Heap>(
     ensures opens { result ≡ OK → Opens (form_of_flag states) depth text.now desk.new.handle.held }
     ensures refused { result ≡ SHOW_REFUSED → Refused (form_of_flag states) text.now report.new }
     ensures long { result ≡ TOO_LONG → INPUT_BYTES < length text.now }
-    ensures open { is_some desk.old.handle.held ≡ true → (result ≡ OPEN) × (report.new ≡ report.old) }
+    ensures open { (result ≡ OPEN) ↔ (is_some desk.old.handle.held ≡ true) }
+    ensures statuses { IsOpening result }
+    ensures report { SetsReport result report.old report.new }
     ensures same { result ≢ OK → desk.new.handle.held ≡ desk.old.handle.held }
     ensures wanted { result ≡ MEMORY → Rose (H.refusals heap.old) (H.refusals heap.new) }
 {
@@ -161,8 +167,9 @@ pub extern "C" fn cuedesk_command(
     ensures did { is_some desk.old.handle.held ≡ true → is_bare line.now ≡ true
         → Did result desk.old.handle.held line.now desk.new.handle.held reply.new len.new }
     ensures not_a_line { is_some desk.old.handle.held ≡ true → is_bare line.now ≡ false
-        → (result ≡ NOT_A_LINE) × (desk.new.handle.held ≡ desk.old.handle.held) × (reply.new ≡ reply.old) }
-    ensures closed { desk.old.handle.held ≡ None → (result ≡ CLOSED) × (desk.new.handle.held ≡ None) × (reply.new ≡ reply.old) }
+        → (result ≡ NOT_A_LINE) × ((desk.new.handle.held ≡ desk.old.handle.held) × HasNone reply.old reply.new len.new) }
+    ensures closed { desk.old.handle.held ≡ None
+        → (result ≡ CLOSED) × ((desk.new.handle.held ≡ None) × HasNone reply.old reply.new len.new) }
 {
     if !desk.is_open() {
         *len = 0;
@@ -219,7 +226,7 @@ pub extern "C" fn cuedesk_reply(
     len: &mut usize,
 ) -> u32
     ensures part { IfSome desk.old.handle.held (λ host. (result ≡ OK) × HasPart (reply_bytes host.reply) from out.new len.new) }
-    ensures closed { desk.old.handle.held ≡ None → (result ≡ CLOSED) × (out.new ≡ out.old) }
+    ensures closed { desk.old.handle.held ≡ None → (result ≡ CLOSED) × HasNone out.old out.new len.new }
     ensures same { desk.new.handle.held ≡ desk.old.handle.held }
 {
     *len = 0;
@@ -239,8 +246,9 @@ pub extern "C" fn cuedesk_reply(
 pub extern "C" fn cuedesk_tick(alloc: Global, desk: &mut CueDesk, n: u32, accepted: &mut u32) -> u32
     ensures ticks { Ticks desk.old.handle.held accepted.new desk.new.handle.held }
     ensures all { result ≡ OK → accepted.new ≡ n }
-    ensures end { result ≡ AT_END → IsOver desk.new.handle.held }
+    ensures end { result ≡ AT_END → (accepted.new < n) × IsOver desk.new.handle.held }
     ensures closed { (result ≡ CLOSED) ↔ (desk.old.handle.held ≡ None) }
+    ensures statuses { (result ≡ OK) ⊎ ((result ≡ AT_END) ⊎ (result ≡ CLOSED)) }
 {
     *accepted = 0;
     if !desk.is_open() {
@@ -264,8 +272,9 @@ pub extern "C" fn cuedesk_frame(
     out: &mut [u8],
 ) -> u32
     ensures frame { result ≡ OK → ShowsFrame desk.old.handle.held universe out.new desk.new.handle.held }
-    ensures given { is_some desk.old.handle.held ≡ true → 1 ≤ universe → universe ≤ UNIVERSES → length out.old ≡ UNIVERSE_SLOTS
-        → result ≡ OK }
+    ensures given { is_some desk.old.handle.held ≡ true
+        → ((result ≡ OK) ↔ (((1 ≤ universe) × (universe ≤ UNIVERSES)) × (length out.old ≡ UNIVERSE_SLOTS))) }
+    ensures statuses { TellsRange result }
     ensures refused { result ≢ OK → (desk.new.handle.held ≡ desk.old.handle.held) × (out.new ≡ out.old) }
     ensures closed { (result ≡ CLOSED) ↔ (desk.old.handle.held ≡ None) }
 {
@@ -289,7 +298,8 @@ pub extern "C" fn cuedesk_changed(
     changed: &mut bool,
 ) -> u32
     ensures changed { result ≡ OK → TellsChange desk.old.handle.held universe changed.new }
-    ensures given { is_some desk.old.handle.held ≡ true → 1 ≤ universe → universe ≤ UNIVERSES → result ≡ OK }
+    ensures given { is_some desk.old.handle.held ≡ true → ((result ≡ OK) ↔ ((1 ≤ universe) × (universe ≤ UNIVERSES))) }
+    ensures statuses { TellsRange result }
     ensures refused { result ≢ OK → changed.new ≡ changed.old }
     ensures closed { (result ≡ CLOSED) ↔ (desk.old.handle.held ≡ None) }
     ensures same { desk.new.handle.held ≡ desk.old.handle.held }
@@ -321,6 +331,7 @@ pub extern "C" fn cuedesk_level(
 ) -> u32
     ensures level { result ≡ OK → TellsLevel desk.old.handle.held channel level.new }
     ensures given { (result ≡ OK) ↔ IsChannel desk.old.handle.held channel }
+    ensures statuses { TellsRange result }
     ensures refused { result ≢ OK → level.new ≡ level.old }
     ensures closed { (result ≡ CLOSED) ↔ (desk.old.handle.held ≡ None) }
     ensures same { desk.new.handle.held ≡ desk.old.handle.held }
@@ -347,6 +358,7 @@ pub extern "C" fn cuedesk_tracked(
 ) -> u32
     ensures level { result ≡ OK → TellsTracked desk.old.handle.held cue channel level.new }
     ensures given { (result ≡ OK) ↔ ((cue ≤ CUE_MAX) × IsChannel desk.old.handle.held channel) }
+    ensures statuses { TellsRange result }
     ensures refused { result ≢ OK → level.new ≡ level.old }
     ensures closed { (result ≡ CLOSED) ↔ (desk.old.handle.held ≡ None) }
     ensures same { desk.new.handle.held ≡ desk.old.handle.held }
@@ -367,6 +379,7 @@ pub extern "C" fn cuedesk_tracked(
 pub extern "C" fn cuedesk_fader(alloc: Global, desk: &mut CueDesk, sub: u32, level: &mut u8) -> u32
     ensures level { result ≡ OK → TellsFader desk.old.handle.held sub level.new }
     ensures given { is_some desk.old.handle.held ≡ true → ((result ≡ OK) ↔ ((1 ≤ sub) × (sub ≤ SUBS))) }
+    ensures statuses { TellsRange result }
     ensures refused { result ≢ OK → level.new ≡ level.old }
     ensures closed { (result ≡ CLOSED) ↔ (desk.old.handle.held ≡ None) }
     ensures same { desk.new.handle.held ≡ desk.old.handle.held }

@@ -1,5 +1,5 @@
 use Rattle.lx_host.proofs.Imports.{◌≡◌, ◌∙◌, sym, ap, subst, Form, form_of_flag, Refused}
-use Rattle.lx_host.proofs.Told.{refused_told, long_told, memory_told}
+use Rattle.lx_host.proofs.Told.{refused_told, long_told, memory_told, statuses_told, report_told}
 use Rattle.lx_host.proofs.open_with.Goals as goal
 
 pub returns-in-Err-clause-refused : goal.returns-in-Err-clause-refused
@@ -15,3 +15,10 @@ returns-in-Err-clause-long g c = λ long.
 pub returns-in-Err-clause-wanted : goal.returns-in-Err-clause-wanted
 returns-in-Err-clause-wanted g c = λ wanted.
     c.in-Err.ensures.wanted.failed (memory_told c.in-Err.fault c.told.result c.told.ensures.status wanted)
+
+pub returns-in-Err-clause-statuses : goal.returns-in-Err-clause-statuses
+returns-in-Err-clause-statuses g c = statuses_told c.in-Err.fault c.told.result c.told.ensures.status
+
+pub returns-in-Err-clause-report : goal.returns-in-Err-clause-report
+returns-in-Err-clause-report g c =
+    report_told c.in-Err.fault c.told.result c.args.report.old c.told.new.report c.told.ensures.status c.told.ensures.report
