@@ -38,14 +38,14 @@ never_ok faults.InputTooLong s is ok = omega (arith, is, ok)
 never_ok faults.Memory s is ok = omega (arith, is, ok)
 
 pub never_open : (fault : ShowFault) (s : ℕ) → s ≡ status_of fault → s ≡ OPEN → ⊥
-never_open (faults.Text fault) s is open = omega (arith, is, open)
-never_open faults.ReadFault s is open = omega (arith, is, open)
-never_open faults.InputTooLong s is open = omega (arith, is, open)
-never_open faults.Memory s is open = omega (arith, is, open)
+never_open (faults.Text fault) s is was_open = omega (arith, is, was_open)
+never_open faults.ReadFault s is was_open = omega (arith, is, was_open)
+never_open faults.InputTooLong s is was_open = omega (arith, is, was_open)
+never_open faults.Memory s is was_open = omega (arith, is, was_open)
 
 not_set : (fault : ShowFault) (s : ℕ) (before now : ShowReport) → s ≡ status_of fault → (s ≡ OK) ⊎ (s ≡ OPEN) → now ≡ before
 not_set fault s before now is (inl ok) = absurd (never_ok fault s is ok)
-not_set fault s before now is (inr open) = absurd (never_open fault s is open)
+not_set fault s before now is (inr was_open) = absurd (never_open fault s is was_open)
 
 -- a text's fault is told by neither of the two
 not_of_text : (s : ℕ) → s ≡ SHOW_REFUSED → (s ≡ TOO_LONG) ⊎ (s ≡ MEMORY) → ⊥

@@ -21,4 +21,4 @@ returns-in-Err-clause-statuses g c = statuses_told c.in-Err.fault c.told.result 
 
 pub returns-in-Err-clause-report : goal.returns-in-Err-clause-report
 returns-in-Err-clause-report g c =
-    report_told c.in-Err.fault c.told.result c.args.report.old c.told.new.report c.told.ensures.status c.told.ensures.report
+    report_told c.in-Err.fault c.told.result c.args.report.now c.told.new.report c.told.ensures.status c.told.ensures.report
