@@ -1,5 +1,5 @@
 -- How the fault of a show's text, and where the playback stands, are told to C.
-use Rattle.std.specs.Prelude.{ℕ, Option, is_some, option_map, unwrap_or}
+use Rattle.std.specs.Prelude.{ℕ, is_some, unwrap_or}
 use Rattle.lx_spec.specs.declared.TextFault.TheVariants as texts
 use Rattle.lx_reader.specs.declared.fault.ShowFault.{ShowFault}
 use Rattle.lx_reader.specs.declared.fault.ShowFault.TheVariants as faults

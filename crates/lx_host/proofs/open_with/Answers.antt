@@ -1,4 +1,4 @@
-use Rattle.lx_host.proofs.Imports.{◌≡◌, ◌∙◌, sym, ap, subst, Form, form_of_flag, Refused}
+use Rattle.lx_host.proofs.Imports.{subst, Form, Refused}
 use Rattle.lx_host.proofs.Told.{refused_told, long_told, memory_told, statuses_told, report_told}
 use Rattle.lx_host.proofs.open_with.Goals as goal
 
