@@ -191,7 +191,8 @@ class Desk:
         moves. With `undo=n` the last n shows that edits and records replaced are kept, and the lines `undo`, `redo` and `record n [only]`
         are known.
 
-        Raises ShowRefused where the text has a fault, ValueError where it is longer than 67,108,864 bytes, and MemoryError.
+        Raises ShowRefused where the text has a fault, ValueError where its lines up to ENDDATA are longer than 67,108,864 bytes, and
+        MemoryError.
         """
         self._desk = _Desk()
         self._at = ctypes.byref(self._desk)

@@ -59,8 +59,8 @@ static void closed_desk(void) {
 static void openings(cuedesk *desk) {
     cuedesk_report report = { 9, 9 };
     cuedesk other = CUEDESK_CLOSED_DESK;
-    size_t long_length = 67108865;
-    uint8_t *long_text = malloc(long_length);
+    size_t long_length = 67108865, length = 7;
+    uint8_t room[8], *long_text = malloc(long_length);
     is(cuedesk_open(desk, (const uint8_t *)REFUSED, strlen(REFUSED), false, &report) == CUEDESK_OPEN && report.fault == 9,
        "an open desk is opened again");
     is(cuedesk_open_undo(desk, (const uint8_t *)SHOW, strlen(SHOW), false, 1, &report) == CUEDESK_OPEN && report.line == 9,
@@ -73,6 +73,10 @@ static void openings(cuedesk *desk) {
     is(cuedesk_open(&other, long_text, long_length, false, &report) == CUEDESK_TOO_LONG && report.fault == 0 && !other.open_, "a long show");
     is(cuedesk_open(&other, long_text, long_length - 1, false, &report) == CUEDESK_SHOW_REFUSED && report.fault == CUEDESK_NO_END_DATA
        && report.line == 67108865, "the longest show");
+    memcpy(long_text, SHOW, strlen(SHOW));
+    is(cuedesk_open(&other, long_text, long_length, false, &report) == CUEDESK_OK && other.open_, "a show before a longer script");
+    is(cuedesk_reply(&other, 0, room, sizeof room, &length) == CUEDESK_OK && length == 0, "no reply yet");
+    cuedesk_close(&other);
     free(long_text);
 }
 
@@ -88,8 +92,9 @@ static void lines(cuedesk *desk) {
        && !memcmp(room, "bad\n", 4), "a line that is too long");
     is(cuedesk_command(desk, (uint8_t *)line, 4096, (uint8_t *)room, sizeof room, &length) == CUEDESK_OK && length == 3
        && !memcmp(room, "ok\n", 3), "the longest line");
-    is(say(desk, "undo", room, sizeof room, &length) == CUEDESK_OK && !memcmp(room, "bad\n", 4), "undo of a plain desk");
+    is(say(desk, "undo", room, sizeof room, &length) == CUEDESK_OK && !memcmp(room, "bad\nved", 7), "undo of a plain desk, and the room behind it");
     is(say(desk, "quit", room, sizeof room, &length) == CUEDESK_QUIT && length == 0, "quit");
+    is(cuedesk_reply(desk, 0, (uint8_t *)room, sizeof room, &length) == CUEDESK_OK && length == 0, "the reply to quit is empty");
 }
 
 static void replies(cuedesk *desk) {

@@ -1,5 +1,5 @@
 /* Each call for memory is refused in turn, alone and with all that follow: what the statuses are, that a refused edit changes nothing, that
-   a desk goes on, and that nothing is leaked.
+   a desk goes on, and that nothing is leaked. After each line ticks, frames, levels and states ask for no memory.
 
        wants FILE */
 #include "cuedesk.h"
@@ -35,6 +35,23 @@ static size_t show(cuedesk *desk, uint8_t *room) {
     return length;
 }
 
+/* The calls that take no memory: none of them asks for any. */
+static void takes_none(cuedesk *desk, const char *line) {
+    long asked = heap_asked;
+    uint32_t accepted;
+    uint8_t level;
+    bool changed;
+    cuedesk_playback playback;
+    must(cuedesk_tick(desk, 3, &accepted) == CUEDESK_OK, "no tick", line);
+    must(cuedesk_frame(desk, 1, slots, sizeof slots) == CUEDESK_OK, "no frame", line);
+    must(cuedesk_changed(desk, 1, &changed) == CUEDESK_OK && !changed, "another frame than was taken", line);
+    must(cuedesk_level(desk, 1, &level) == CUEDESK_OK, "no level", line);
+    must(cuedesk_tracked(desk, 1000, 1, &level) == CUEDESK_OK, "no tracked level", line);
+    must(cuedesk_fader(desk, 1, &level) == CUEDESK_OK, "no fader", line);
+    must(cuedesk_state(desk, &playback) == CUEDESK_OK, "no state", line);
+    must(heap_asked == asked, "memory was asked for", line);
+}
+
 /* A line at which the call for memory of the number is refused. */
 static void do_line(cuedesk *desk, const char *line, long at) {
     size_t length = 0, had = show(desk, before), has;
@@ -55,7 +72,7 @@ static void do_line(cuedesk *desk, const char *line, long at) {
         has = show(desk, after);
         must(has == had && memcmp(before, after, had) == 0, "a refused edit changed the show", line);
     }
-    must(cuedesk_frame(desk, 1, slots, sizeof slots) == CUEDESK_OK, "no frame", line);
+    takes_none(desk, line);
 }
 
 /* The show's text as the first reply of a desk, at which the call for memory of the number is refused. */

@@ -12,7 +12,7 @@ ghost use Rattle.lx_spec.specs.TrackedLevel.{tracked};
 ghost use Rattle.lx_console.specs.ConsoleMeaning.{StandsFor};
 ghost use Rattle.lx_embed.specs.Answered.{Answered, ByMemory};
 ghost use Rattle.lx_embed.specs.Engines.{console_of};
-ghost use Rattle.lx_embed.specs.Opened.{OpensText, RefusesShow};
+ghost use Rattle.lx_embed.specs.Opened.{IsUntouched, OpensText, RefusesShow};
 ghost use Rattle.lx_embed.specs.ReplyBytes.{reply_bytes, wants_of};
 ghost use Rattle.lx_embed.specs.TakenSlots.{taken_of};
 ghost use Rattle.lx_embed.specs.Told.{Stands, AcceptedTicks};
@@ -41,9 +41,9 @@ pub struct HostDesk {
 
 impl HostDesk {
     /// Opens a desk over a show's text: a plain one, or where a depth is given one that keeps the last n shows that edits and
-    /// records replace.
+    /// records replace. Its reply is empty, nothing of it was taken, and its heaps have refused nothing.
     ///
-    /// The fault is that of the text, or that it is too long, or that memory runs out.
+    /// The fault is that of the text, or that its lines up to ENDDATA are too long, or that memory runs out.
     pub fn open(
         alloc: Global,
         text: &[u8],
@@ -51,7 +51,7 @@ impl HostDesk {
         depth: Option<u32>,
     ) -> Result<HostDesk, ShowFault>
         ensures opens { IfOk result (λ desk. OpensText form depth text.now desk.engine) }
-        ensures untaken { IfOk result (λ desk. (u : ℕ) → 1 ≤ u → u ≤ UNIVERSES → taken_of desk.taken u ≡ None) }
+        ensures untouched { IfOk result IsUntouched }
         ensures refuses { IfErr result (RefusesShow form text.now) }
     {
         HostDesk::open_in(&mut SystemHeap::new(alloc), text, form, depth)
@@ -65,7 +65,7 @@ impl HostDesk {
         depth: Option<u32>,
     ) -> Result<HostDesk, ShowFault>
         ensures opens { IfOk result (λ desk. OpensText form depth text.now desk.engine) }
-        ensures untaken { IfOk result (λ desk. (u : ℕ) → 1 ≤ u → u ≤ UNIVERSES → taken_of desk.taken u ≡ None) }
+        ensures untouched { IfOk result IsUntouched }
         ensures refuses { IfErr result (RefusesShow form text.now) }
         ensures wanted { HasCauseOf ShowFault.Memory (H.refusals heap.old) (H.refusals heap.new) result }
     {
@@ -128,7 +128,7 @@ impl HostDesk {
         ensures taken { result ≡ true → taken_of self.new.taken universe ≡ Some out.new }
         ensures others { (u : ℕ) → 1 ≤ u → u ≢ universe → taken_of self.new.taken u ≡ taken_of self.old.taken u }
         ensures refused { result ≡ false → (out.new ≡ out.old) × (self.new ≡ self.old) }
-        ensures given { 1 ≤ universe → universe ≤ UNIVERSES → length out.old ≡ UNIVERSE_SLOTS → result ≡ true }
+        ensures given { (result ≡ true) ↔ (((1 ≤ universe) × (universe ≤ UNIVERSES)) × (length out.old ≡ UNIVERSE_SLOTS)) }
         ensures kept { (self.new.engine ≡ self.old.engine) × ((self.new.reply ≡ self.old.reply) × (self.new.heap ≡ self.old.heap)) }
     {
         if !is_universe(universe) || out.len() != UNIVERSE_SLOTS {

@@ -27,9 +27,10 @@ pub struct ReplyText {
 impl ReplyText {
     ghost use Rattle.lx_embed.specs.ReplyBytes.{reply_bytes, wants_of};
 
-    /// The empty reply.
+    /// The empty reply, whose heap has refused nothing.
     pub(crate) fn new(alloc: Global) -> ReplyText
-        ensures { reply_bytes result ≡ [] }
+        ensures bytes { reply_bytes result ≡ [] }
+        ensures wants { wants_of result ≡ 0 }
     {
         ReplyText {
             room: Vec::new(alloc),

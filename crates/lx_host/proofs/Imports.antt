@@ -1,8 +1,8 @@
 -- What the proofs of this crate import from its specs and from other crates. It declares nothing.
-pub use Rattle.std.proofs.Common.{[], ℕ, ◌++◌, ◌<◌, ◌∙◌, ◌∷◌, ◌≡◌, ap, arith, Bool, false, is_some, length, List, lit<, refl, rules}
-pub use Rattle.std.proofs.Common.{subst, sym, T, true}
+pub use Rattle.std.proofs.Common.{[], ℕ, ◌++◌, ◌<◌, ◌∙◌, ◌∷◌, ◌≡◌, ◌⊎◌, ap, arith, Bool, false, inl, inr, is_some, length, List, lit<}
+pub use Rattle.std.proofs.Common.{refl, rules, subst, sym, T, true}
 pub use Rattle.lx_embed.specs.declared.desk.HostDesk.{HostDesk}
-pub use Rattle.lx_host.specs.Calls.{form_of_flag, Refused, HandsOutFrame, ShowsFrame, TellsChange}
+pub use Rattle.lx_host.specs.Calls.{Refused, HandsOutFrame, ShowsFrame, TellsChange}
 pub use Rattle.lx_host.specs.Handle.{boxed, handle_owns}
 pub use Rattle.lx_spec.specs.declared.Form.{Form}
 pub use Rattle.std.proofs.BoxSteps.Form.{τ, args, B, box_ty, box_typed, Bx, D, P, R, word}

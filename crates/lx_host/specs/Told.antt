@@ -1,5 +1,5 @@
 -- How the fault of a show's text, and where the playback stands, are told to C.
-use Rattle.std.specs.Prelude.{ℕ, Option, is_some, option_map, unwrap_or}
+use Rattle.std.specs.Prelude.{ℕ, is_some, unwrap_or}
 use Rattle.lx_spec.specs.declared.TextFault.TheVariants as texts
 use Rattle.lx_reader.specs.declared.fault.ShowFault.{ShowFault}
 use Rattle.lx_reader.specs.declared.fault.ShowFault.TheVariants as faults
@@ -9,12 +9,14 @@ use Rattle.lx_host.specs.declared.status.PlaybackReport.{PlaybackReport}
 use Rattle.lx_host.specs.declared.status.ShowReport.{ShowReport}
 use Rattle.lx_host.specs.declared.status.TheConstants.{MEMORY, SHOW_REFUSED, TOO_LONG}
 
-abbrev pub status_of : ShowFault → ℕ
-status_of (faults.Text fault) = SHOW_REFUSED
-status_of faults.InputTooLong = TOO_LONG
-status_of faults.ReadFault = TOO_LONG
-status_of faults.Memory = MEMORY
+-- the status that tells the fault of an opening
+abbrev pub fault_status : ShowFault → ℕ
+fault_status (faults.Text fault) = SHOW_REFUSED
+fault_status faults.InputTooLong = TOO_LONG
+fault_status faults.ReadFault = TOO_LONG
+fault_status faults.Memory = MEMORY
 
+-- the report that tells it: none but of a text's own fault
 abbrev pub show_report : ShowFault → ShowReport
 show_report (faults.Text (texts.NoIdent i)) = record { fault = 1; line = i }
 show_report (faults.Text (texts.BadNumber i)) = record { fault = 2; line = i }

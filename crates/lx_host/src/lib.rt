@@ -1,7 +1,8 @@
 //! The desk for programs in C: one call for each thing that they want of it, as `host/cuedesk.h` declares them.
 //!
 //! A desk is a `CueDesk` that the caller keeps, closed at first (all zero bytes), and passes by its address. What it leads to
-//! is taken from the C library's heap, and given back by `cuedesk_close`. Each call answers a status.
+//! is taken from the C library's heap, and given back by `cuedesk_close`. Each other call but `cuedesk_version` answers a
+//! status.
 #![tactic(auto)]
 
 mod desk;
@@ -10,22 +11,23 @@ mod parts;
 mod report;
 mod status;
 
-ghost use Rattle.std.specs.Prelude.{◌≡◌, ◌≢◌, ◌≤◌, ◌<◌, ◌↔◌, IfSome, IfOk, IfErr, None, Some, Bool, is_some, true, false, length, min, take};
+ghost use Rattle.std.specs.Prelude.{◌≡◌, ◌≢◌, ◌≤◌, ◌<◌, ◌↔◌, ◌⊎◌, IfSome, IfOk, IfErr, None, Some, is_some, true, false, length};
 ghost use Rattle.lx_base.specs.declared.TheConstants.{CUE_MAX, INPUT_BYTES, SUBS, UNIVERSES, UNIVERSE_SLOTS};
 ghost use Rattle.lx_io.specs.Causes.{HasCauseOf, Rose};
+ghost use Rattle.lx_spec.specs.Job.{show_wanted};
 ghost use Rattle.lx_embed.specs.Answered.{is_bare};
 ghost use Rattle.lx_embed.specs.Opened.{RefusesShow};
 ghost use Rattle.lx_embed.specs.ReplyBytes.{reply_bytes};
 ghost use Rattle.lx_host.specs.declared.status.TheConstants.{OK, CLOSED, OPEN, MEMORY, SHOW_REFUSED, TOO_LONG, NOT_A_LINE, AT_END, OUT_OF_RANGE, VERSION};
-ghost use Rattle.lx_host.specs.Calls.{form_of_flag, tells, OpensDesk, Opens, Refused, Did, HasPart, Ticks, IsOver, ShowsFrame};
-ghost use Rattle.lx_host.specs.Calls.{IsChannel, TellsChange, TellsLevel, TellsTracked, TellsFader, TellsState};
+ghost use Rattle.lx_host.specs.Calls.{form_of_flag, answer_status, put_in_front, IsOpening, OpensDesk, Opens, Refused, SetsReport, Did, HasNone, HasPart};
+ghost use Rattle.lx_host.specs.Calls.{Ticks, IsOver, ShowsFrame, IsChannel, TellsRange, TellsChange, TellsLevel, TellsTracked, TellsFader, TellsState};
 
 use desk::CueDesk;
 use lx_embed::{HostDesk, is_line};
 use lx_io::{Heap, SinkFault, SystemHeap};
 use lx_reader::ShowFault;
 use lx_show::Form;
-use report::{playback_for, told};
+use report::{playback_for, tell_fault};
 use status::{
     AT_END, CLOSED, MEMORY, MORE, NOT_A_LINE, OK, OPEN, OUT_OF_RANGE, PlaybackReport, QUIT,
     ShowReport, VERSION,
@@ -54,8 +56,10 @@ pub extern "C" fn cuedesk_open(
 ) -> u32
     ensures opens { result ≡ OK → Opens (form_of_flag states) None text.now desk.new.handle.held }
     ensures refused { result ≡ SHOW_REFUSED → Refused (form_of_flag states) text.now report.new }
-    ensures long { result ≡ TOO_LONG → INPUT_BYTES < length text.now }
-    ensures open { is_some desk.old.handle.held ≡ true → (result ≡ OPEN) × (report.new ≡ report.old) }
+    ensures long { result ≡ TOO_LONG → INPUT_BYTES < length (show_wanted text.now) }
+    ensures open { (result ≡ OPEN) ↔ (is_some desk.old.handle.held ≡ true) }
+    ensures statuses { IsOpening result }
+    ensures report { SetsReport result report.old report.new }
     ensures same { result ≢ OK → desk.new.handle.held ≡ desk.old.handle.held }
 {
     let mut heap = SystemHeap::new(alloc);
@@ -74,8 +78,10 @@ pub extern "C" fn cuedesk_open_undo(
 ) -> u32
     ensures opens { result ≡ OK → Opens (form_of_flag states) (Some depth) text.now desk.new.handle.held }
     ensures refused { result ≡ SHOW_REFUSED → Refused (form_of_flag states) text.now report.new }
-    ensures long { result ≡ TOO_LONG → INPUT_BYTES < length text.now }
-    ensures open { is_some desk.old.handle.held ≡ true → (result ≡ OPEN) × (report.new ≡ report.old) }
+    ensures long { result ≡ TOO_LONG → INPUT_BYTES < length (show_wanted text.now) }
+    ensures open { (result ≡ OPEN) ↔ (is_some desk.old.handle.held ≡ true) }
+    ensures statuses { IsOpening result }
+    ensures report { SetsReport result report.old report.new }
     ensures same { result ≢ OK → desk.new.handle.held ≡ desk.old.handle.held }
 {
     let mut heap = SystemHeap::new(alloc);
@@ -93,8 +99,10 @@ fn open_with<H: Heap>(
 ) -> u32
     ensures opens { result ≡ OK → Opens (form_of_flag states) depth text.now desk.new.handle.held }
     ensures refused { result ≡ SHOW_REFUSED → Refused (form_of_flag states) text.now report.new }
-    ensures long { result ≡ TOO_LONG → INPUT_BYTES < length text.now }
-    ensures open { is_some desk.old.handle.held ≡ true → (result ≡ OPEN) × (report.new ≡ report.old) }
+    ensures long { result ≡ TOO_LONG → INPUT_BYTES < length (show_wanted text.now) }
+    ensures open { (result ≡ OPEN) ↔ (is_some desk.old.handle.held ≡ true) }
+    ensures statuses { IsOpening result }
+    ensures report { SetsReport result report.old report.new }
     ensures same { result ≢ OK → desk.new.handle.held ≡ desk.old.handle.held }
     ensures wanted { result ≡ MEMORY → Rose (H.refusals heap.old) (H.refusals heap.new) }
 {
@@ -106,7 +114,7 @@ fn open_with<H: Heap>(
             *desk = CueDesk::of(host);
             OK
         }
-        Err(fault) => told(fault, report),
+        Err(fault) => tell_fault(fault, report),
     }
 }
 
@@ -159,10 +167,11 @@ pub extern "C" fn cuedesk_command(
     len: &mut usize,
 ) -> u32
     ensures did { is_some desk.old.handle.held ≡ true → is_bare line.now ≡ true
-        → Did result desk.old.handle.held line.now desk.new.handle.held reply.new len.new }
+        → Did result desk.old.handle.held line.now desk.new.handle.held reply.old reply.new len.new }
     ensures not_a_line { is_some desk.old.handle.held ≡ true → is_bare line.now ≡ false
-        → (result ≡ NOT_A_LINE) × (desk.new.handle.held ≡ desk.old.handle.held) × (reply.new ≡ reply.old) }
-    ensures closed { desk.old.handle.held ≡ None → (result ≡ CLOSED) × (desk.new.handle.held ≡ None) × (reply.new ≡ reply.old) }
+        → (result ≡ NOT_A_LINE) × ((desk.new.handle.held ≡ desk.old.handle.held) × HasNone reply.old reply.new len.new) }
+    ensures closed { desk.old.handle.held ≡ None
+        → (result ≡ CLOSED) × ((desk.new.handle.held ≡ None) × HasNone reply.old reply.new len.new) }
 {
     if !desk.is_open() {
         *len = 0;
@@ -177,15 +186,15 @@ pub extern "C" fn cuedesk_command(
     let count = copy_front(host.reply(), reply);
     desk.put(host);
     *len = count;
-    status_of(answered, count <= reply.len())
+    answer_status(answered, count <= reply.len())
 }
 
-/// Copies the bytes to the front of `out`, as many as fit, and says how many bytes there are. Most replies are `ok` and the line's
-/// end, and are copied at once.
+/// Copies the bytes to the front of `out`, as many as fit, and says how many bytes there are. Behind them `out` is as it was. Most
+/// replies are `ok` and the line's end, and are copied at once.
 #[inline(always)]
 fn copy_front(bytes: &[u8], out: &mut [u8]) -> usize
     ensures count { result ≡ length bytes.now }
-    ensures front { take (min result (length out.new)) out.new ≡ take (min result (length out.new)) bytes.now }
+    ensures put { out.new ≡ put_in_front bytes.now out.old }
 {
     if bytes.len() == 3 && out.len() >= 3 {
         out[0] = bytes[0];
@@ -198,8 +207,8 @@ fn copy_front(bytes: &[u8], out: &mut [u8]) -> usize
 }
 
 /// How the answer to a line is told, whose reply fits or doesn't.
-fn status_of(answered: Result<bool, SinkFault>, fits: bool) -> u32
-    ensures { result ≡ tells answered fits }
+fn answer_status(answered: Result<bool, SinkFault>, fits: bool) -> u32
+    ensures { result ≡ answer_status answered fits }
 {
     match answered {
         Ok(true) if fits => OK,
@@ -218,8 +227,8 @@ pub extern "C" fn cuedesk_reply(
     out: &mut [u8],
     len: &mut usize,
 ) -> u32
-    ensures part { IfSome desk.old.handle.held (λ host. (result ≡ OK) × HasPart (reply_bytes host.reply) from out.new len.new) }
-    ensures closed { desk.old.handle.held ≡ None → (result ≡ CLOSED) × (out.new ≡ out.old) }
+    ensures part { IfSome desk.old.handle.held (λ host. (result ≡ OK) × HasPart (reply_bytes host.reply) from out.old out.new len.new) }
+    ensures closed { desk.old.handle.held ≡ None → (result ≡ CLOSED) × HasNone out.old out.new len.new }
     ensures same { desk.new.handle.held ≡ desk.old.handle.held }
 {
     *len = 0;
@@ -239,8 +248,9 @@ pub extern "C" fn cuedesk_reply(
 pub extern "C" fn cuedesk_tick(alloc: Global, desk: &mut CueDesk, n: u32, accepted: &mut u32) -> u32
     ensures ticks { Ticks desk.old.handle.held accepted.new desk.new.handle.held }
     ensures all { result ≡ OK → accepted.new ≡ n }
-    ensures end { result ≡ AT_END → IsOver desk.new.handle.held }
+    ensures end { result ≡ AT_END → (accepted.new < n) × IsOver desk.new.handle.held }
     ensures closed { (result ≡ CLOSED) ↔ (desk.old.handle.held ≡ None) }
+    ensures statuses { (result ≡ OK) ⊎ ((result ≡ AT_END) ⊎ (result ≡ CLOSED)) }
 {
     *accepted = 0;
     if !desk.is_open() {
@@ -264,8 +274,9 @@ pub extern "C" fn cuedesk_frame(
     out: &mut [u8],
 ) -> u32
     ensures frame { result ≡ OK → ShowsFrame desk.old.handle.held universe out.new desk.new.handle.held }
-    ensures given { is_some desk.old.handle.held ≡ true → 1 ≤ universe → universe ≤ UNIVERSES → length out.old ≡ UNIVERSE_SLOTS
-        → result ≡ OK }
+    ensures given { is_some desk.old.handle.held ≡ true
+        → ((result ≡ OK) ↔ (((1 ≤ universe) × (universe ≤ UNIVERSES)) × (length out.old ≡ UNIVERSE_SLOTS))) }
+    ensures statuses { TellsRange result }
     ensures refused { result ≢ OK → (desk.new.handle.held ≡ desk.old.handle.held) × (out.new ≡ out.old) }
     ensures closed { (result ≡ CLOSED) ↔ (desk.old.handle.held ≡ None) }
 {
@@ -289,7 +300,8 @@ pub extern "C" fn cuedesk_changed(
     changed: &mut bool,
 ) -> u32
     ensures changed { result ≡ OK → TellsChange desk.old.handle.held universe changed.new }
-    ensures given { is_some desk.old.handle.held ≡ true → 1 ≤ universe → universe ≤ UNIVERSES → result ≡ OK }
+    ensures given { is_some desk.old.handle.held ≡ true → ((result ≡ OK) ↔ ((1 ≤ universe) × (universe ≤ UNIVERSES))) }
+    ensures statuses { TellsRange result }
     ensures refused { result ≢ OK → changed.new ≡ changed.old }
     ensures closed { (result ≡ CLOSED) ↔ (desk.old.handle.held ≡ None) }
     ensures same { desk.new.handle.held ≡ desk.old.handle.held }
@@ -321,6 +333,7 @@ pub extern "C" fn cuedesk_level(
 ) -> u32
     ensures level { result ≡ OK → TellsLevel desk.old.handle.held channel level.new }
     ensures given { (result ≡ OK) ↔ IsChannel desk.old.handle.held channel }
+    ensures statuses { TellsRange result }
     ensures refused { result ≢ OK → level.new ≡ level.old }
     ensures closed { (result ≡ CLOSED) ↔ (desk.old.handle.held ≡ None) }
     ensures same { desk.new.handle.held ≡ desk.old.handle.held }
@@ -347,6 +360,7 @@ pub extern "C" fn cuedesk_tracked(
 ) -> u32
     ensures level { result ≡ OK → TellsTracked desk.old.handle.held cue channel level.new }
     ensures given { (result ≡ OK) ↔ ((cue ≤ CUE_MAX) × IsChannel desk.old.handle.held channel) }
+    ensures statuses { TellsRange result }
     ensures refused { result ≢ OK → level.new ≡ level.old }
     ensures closed { (result ≡ CLOSED) ↔ (desk.old.handle.held ≡ None) }
     ensures same { desk.new.handle.held ≡ desk.old.handle.held }
@@ -367,6 +381,7 @@ pub extern "C" fn cuedesk_tracked(
 pub extern "C" fn cuedesk_fader(alloc: Global, desk: &mut CueDesk, sub: u32, level: &mut u8) -> u32
     ensures level { result ≡ OK → TellsFader desk.old.handle.held sub level.new }
     ensures given { is_some desk.old.handle.held ≡ true → ((result ≡ OK) ↔ ((1 ≤ sub) × (sub ≤ SUBS))) }
+    ensures statuses { TellsRange result }
     ensures refused { result ≢ OK → level.new ≡ level.old }
     ensures closed { (result ≡ CLOSED) ↔ (desk.old.handle.held ≡ None) }
     ensures same { desk.new.handle.held ≡ desk.old.handle.held }
@@ -417,9 +432,10 @@ fn tell(told: Option<u8>, level: &mut u8) -> u32
     }
 }
 
-/// Copies the bytes from a place on to the front of `out`, as many as there are and fit, and says how many.
+/// Copies the bytes from a place on to the front of `out`, as many as there are and fit, and says how many. Behind them `out` is as it
+/// was.
 fn copy_part(bytes: &[u8], from: usize, out: &mut [u8]) -> usize
-    ensures { HasPart bytes.now from out.new result }
+    ensures { HasPart bytes.now from out.old out.new result }
 {
     if from > bytes.len() {
         return 0;

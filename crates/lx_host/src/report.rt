@@ -1,7 +1,7 @@
 //! How a refused show and the state of a playback are told to C.
 
 ghost use Rattle.std.specs.Prelude.{◌≡◌};
-ghost use Rattle.lx_host.specs.Told.{status_of, show_report, playback_of};
+ghost use Rattle.lx_host.specs.Told.{fault_status, show_report, playback_of};
 
 use crate::status::{MEMORY, PlaybackReport, SHOW_REFUSED, ShowReport, TOO_LONG};
 use lx_base::CueNo;
@@ -10,8 +10,8 @@ use lx_reader::ShowFault;
 use lx_spec::TextFault;
 
 /// The status of a fault, and its report. A read never fails here.
-pub(crate) fn told(fault: ShowFault, report: &mut ShowReport) -> u32
-    ensures status { result ≡ status_of fault }
+pub(crate) fn tell_fault(fault: ShowFault, report: &mut ShowReport) -> u32
+    ensures status { result ≡ fault_status fault }
     ensures report { report.new ≡ show_report fault }
 {
     match fault {

@@ -10,7 +10,7 @@ pub const OPEN: u32 = 2;
 pub const MEMORY: u32 = 3;
 /// The text of the show has a fault.
 pub const SHOW_REFUSED: u32 = 4;
-/// The text of the show is longer than 67,108,864 bytes.
+/// The text of the show up to its line ENDDATA, or to its first fault, is longer than 67,108,864 bytes.
 pub const TOO_LONG: u32 = 5;
 /// The bytes aren't one line: there is a LF or a CR among them.
 pub const NOT_A_LINE: u32 = 6;
