@@ -138,9 +138,9 @@ uint32_t cuedesk_open_undo(cuedesk *desk, const uint8_t *text, size_t text_len, 
 void cuedesk_close(cuedesk *desk);
 
 /* Does one line of a script (docs/FORMATS.md), without its line end, and puts its reply, each line of it with its LF, into `reply`,
-   which has room for `reply_cap` bytes. `reply_len` is set to how many bytes the whole reply has, or with
-   MEMORY to how many of them are kept. Where that is more than there is room for the front of it stands there, and `cuedesk_reply` gives the rest: the reply is kept up to the next line. Where it is shorter, the
-   room behind it is as it was.
+   which has room for `reply_cap` bytes. `reply_len` is set to how many bytes the whole reply has, or with MEMORY to how many of them are
+   kept. Where that is more than there is room for the front of it stands there, and `cuedesk_reply` gives the rest: the reply is kept up
+   to the next line. Where it is shorter, the room behind it is as it was.
 
    OK: the line was done, and its whole reply stands in `reply`. A line that is refused or bad is answered so, and with OK. MORE: as OK,
    but that there was no room for all of it. QUIT: the line is `quit`, whose reply is empty. MEMORY: the line was done, and of its reply
