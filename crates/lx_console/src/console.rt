@@ -12,6 +12,7 @@ ghost use Rattle.lx_spec.specs.Replies.{row_of};
 ghost use Rattle.lx_spec.specs.ValidEdit.{ValidCommand};
 ghost use Rattle.lx_spec.specs.Output.{dimmer_value, fader, frame};
 ghost use Rattle.lx_spec.specs.Desk.{Desk, opened};
+ghost use Rattle.lx_playback.specs.QuietTicks.{moments_later};
 ghost use Rattle.lx_edit.specs.PlanMeaning.{IsReady, planned};
 ghost use Rattle.lx_edit.specs.Undone.{TakesBack};
 ghost use Rattle.lx_mixer.specs.Table.{IsTable};
@@ -207,6 +208,7 @@ impl Console {
     pub fn pass(&mut self, most: u32) -> u32
         ensures most { result ≤ most }
         ensures ticks { (d : Desk) → StandsFor d self.old → IsOkAnd (after_ticks result d) (λ next. StandsFor next self.new) }
+        ensures state { self.new ≡ record self.old { playback = moments_later self.old.playback result } }
         ensures rest { self.old.playback.live ≡ [] → self.old.playback.pending ≡ None
             → result ≡ min most ((TICK_END - self.old.playback.moment) / TICK_STEP) }
     {

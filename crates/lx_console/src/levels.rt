@@ -80,20 +80,12 @@ pub(crate) fn recompute_touched(
     ensures same { result ≡ false → levels.new ≡ levels.old }
     ensures valid { Valid show.now }
 {
-    let count = show.channels() as usize;
     let mut changed = false;
     let mut k = 0;
-    while k < count {
-        if chans.is_clear_from(k as u32 + 1) {
-            k += 64;
-        } else {
-            let c = Chan::at(k);
-            if chans.contains(c) {
-                levels.recompute(show, sheet, playback, c);
-                changed = true;
-            }
-            k += 1;
-        }
+    while let Some(c) = chans.next_above(k, show.channels()) {
+        levels.recompute(show, sheet, playback, c);
+        changed = true;
+        k = c.get();
     }
     changed
 }

@@ -16,6 +16,7 @@ ghost use Rattle.lx_spec.specs.ValidEdit.{ValidEdit, ValidCommand};
 ghost use Rattle.lx_spec.specs.Output.{contribution, fader};
 ghost use Rattle.lx_spec.specs.Desk.{Desk, opened};
 ghost use Rattle.lx_spec.specs.TwoLists.{is_tick};
+ghost use Rattle.lx_playback.specs.QuietTicks.{moments_later};
 ghost use Rattle.lx_edit.specs.PlanMeaning.{IsReady, IsRefusal, planned};
 ghost use Rattle.lx_edit.specs.Undone.{TakesBack};
 ghost use Rattle.lx_mixer.specs.Table.{IsTable};
@@ -250,6 +251,7 @@ impl Player {
     pub fn pass(&mut self, most: u32) -> Passed
         ensures most { result.ticks ≤ most }
         ensures ticks { (d : Desk) → StandsFor d self.old → IsOkAnd (after_ticks result.ticks d) (λ next. StandsFor next self.new) }
+        ensures state { self.new ≡ record self.old { playback = moments_later self.old.playback result.ticks } }
         ensures rest { self.old.playback.live ≡ [] → self.old.playback.pending ≡ None
             → result.ticks ≡ min most ((TICK_END - self.old.playback.moment) / TICK_STEP) }
         ensures changes { Changes result.change self.old self.new }

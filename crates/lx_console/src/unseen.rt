@@ -63,19 +63,13 @@ fn undecided(show: &Show, near: &[Cue], first: CueNo, chans: &ChanSet) -> ChanSe
     ensures { (c : ℕ) → InRange show.now.channels c → has_chan result c ≡ false
         → (has_chan chans.now c ≡ false) ⊎ (decided_at near.now first c) }
 {
-    let count = show.channels() as usize;
     let mut left = ChanSet::empty();
     let mut k = 0;
-    while k < count {
-        if chans.is_clear_from(k as u32 + 1) {
-            k += 64;
-        } else {
-            let c = Chan::at(k);
-            if chans.contains(c) && !is_decided(near, first, c) {
-                left.insert(c);
-            }
-            k += 1;
+    while let Some(c) = chans.next_above(k, show.channels()) {
+        if !is_decided(near, first, c) {
+            left.insert(c);
         }
+        k = c.get();
     }
     left
 }

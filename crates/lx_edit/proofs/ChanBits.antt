@@ -4,13 +4,11 @@ use Rattle.lx_edit.proofs.Imports.{false, List, length, get_or, set, replicate, 
 use Rattle.lx_edit.proofs.Imports.{◌&&◌, bit_or, slice_index, bit_at, cases_eq, false≢true, CHANNELS, nat_tests, get_or-replicate, get_or-set_same}
 use Rattle.lx_edit.proofs.Imports.{get_or-set_other, bit_at-zero, bit_at_ones, bit_at_set_same, bit_at_set_other, ChanSet, is_chan, eq_other, eq_true}
 use Rattle.std.proofs.Math.Nat.{div-add-mod}
+use Rattle.std.proofs.lemmas.Nat.{shr-shr}
 use Rattle.lx_edit.specs.ChanSet.{has_chan}
 
 pub is_chan-in : (c : ℕ) → 1 ≤ c → c ≤ CHANNELS → is_chan c ≡ true
 is_chan-in c least most = grind (arith, nat_tests)
-
-pub is_chan-past : (c : ℕ) → CHANNELS < c → is_chan c ≡ false
-is_chan-past c past = grind (arith, nat_tests)
 
 least_of : (c : ℕ) → is_chan c ≡ true → 1 ≤ c
 least_of c is = grind (arith, nat_tests)
@@ -116,11 +114,14 @@ pub has_chan-with : (words : List ℕ) (c x : ℕ) → is_chan c ≡ true → (c
     → has_chan (record { words = with_chan words c }) x ≡ (x == c || has_chan (record { words = words }) x)
 has_chan-with words c x here within = with_step words c x (is_chan x) refl here within
 
--- no channel of a word without a bit is in the set
-pub has_chan-clear : (chans : ChanSet) (k x : ℕ) → 1 ≤ k → (k - 1) % 64 ≡ 0 → slice_index chans.words ((k - 1) / 64) ≡ 0 → k ≤ x
-    → x < k + 64 → (b : Bool) → is_chan x ≡ b → has_chan chans x ≡ false
-has_chan-clear chans k x least start clear from to false none = has_chan-none chans x none
-has_chan-clear chans k x least start clear from to true is =
-    let word : (x - 1) / 64 ≡ (k - 1) / 64 = omega (arith, least, start, from, to) in
-    has_chan-at chans x is ∙ ap (λ n. bit_at (slice_index chans.words n) ((x - 1) % 64) == 1) word
-    ∙ ap (λ w. bit_at w ((x - 1) % 64) == 1) clear ∙ ap (λ b. b == 1) (bit_at-zero ((x - 1) % 64))
+-- no channel of the rest of a word without a bit is in the set
+pub has_chan-clear : (chans : ChanSet) (place x : ℕ) → slice_index chans.words (place / 64) / 2 ^ (place % 64) ≡ 0 → place < x
+    → x ≤ place / 64 * 64 + 64 → has_chan chans x ≡ false
+unfolding has_chan
+has_chan-clear chans place x clear from to =
+    let w = slice_index chans.words (place / 64) in
+    let i = x - 1 - place in
+    let word : (x - 1) / 64 ≡ place / 64 = omega (arith, from, to) in
+    let bit : (x - 1) % 64 ≡ place % 64 + i = omega (arith, from, to) in
+    let none : bit_at w (place % 64 + i) ≡ 0 = ap (λ n. n % 2) (sym (shr-shr w (place % 64) i)) ∙ ap (λ n. bit_at n i) clear ∙ bit_at-zero i in
+    rw (word, bit, none) (both_false (is_chan x))

@@ -1,22 +1,20 @@
 //! A plan applied: the show becomes the edited one, the sheet follows, and the plan that takes it back is made of
 //! what was replaced. No call takes memory.
 
-ghost use Rattle.std.specs.Prelude.{◌≡◌, ◌≢◌, ◌≤◌, ℕ, false, true, None, IfSome};
+ghost use Rattle.std.specs.Prelude.{◌≡◌, ◌≤◌, false, true, None, IfSome};
 ghost use Rattle.lx_spec.specs.Show.{Valid};
 ghost use Rattle.lx_spec.specs.TrackedLevel.{cue_of};
 ghost use Rattle.lx_spec.specs.EditedShow.{with_cue, without_cue};
-ghost use Rattle.lx_sheet.specs.Rows.{level_of};
-ghost use Rattle.lx_sheet.specs.SheetMeaning.{RowsStandFor, StandsIn};
+ghost use Rattle.lx_sheet.specs.SheetMeaning.{RowsStandFor};
 ghost use Rattle.lx_edit.specs.CueChanges.{CanMend, Grows, KeepsLevels, KeepsOthers, Replaced};
 ghost use Rattle.lx_edit.specs.PlanMeaning.{changed_show, planned, with_above, CanExchange, CanPlace, KeepsAbove, IsReady, dimmer_planned, plans_sub};
 ghost use Rattle.lx_edit.specs.Undone.{TakesBack, cue_instead};
 
-use crate::absent::channel;
 use crate::chan_set::ChanSet;
 use crate::dirty::Dirty;
 use crate::marks::{changes_asserts, mark_change, mark_move, mark_within};
 use crate::plans::Plan;
-use lx_base::{CHANNELS, Chan, ChanRange, CueNo, Dimmer, GroupNo, SubNo};
+use lx_base::{CHANNELS, ChanRange, CueNo, Dimmer, GroupNo, SubNo};
 use lx_sheet::Sheet;
 use lx_show::{Cue, Group, Move, MoveList, PatchRow, Show, Sub};
 
@@ -405,42 +403,18 @@ fn mend(sheet: &mut Sheet, show: &Show, from: CueNo, to: Option<CueNo>, chans: &
     }
 }
 
-/// The columns of these channels are filled in again.
+/// The columns of these channels are filled in again: from the cue on, up to the given end or else to the next cue
+/// that decides the channel.
 fn mend_columns(sheet: &mut Sheet, show: &Show, from: CueNo, to: &Option<CueNo>, chans: &ChanSet)
     requires { CanMend show.now sheet.old from to.now chans.now }
     ensures { RowsStandFor show.now sheet.new }
 {
-    let mut k = 1;
-    while k <= CHANNELS {
-        if chans.is_clear_from(k) {
-            k += 64;
-        } else {
-            mend_column(sheet, show, from, to, chans, channel(k));
-            k += 1;
+    let mut k = 0;
+    while let Some(c) = chans.next_above(k, CHANNELS) {
+        match to {
+            Some(end) => sheet.changed_until(show, from, Some(*end), c),
+            None => sheet.changed_on(show, from, c),
         }
-    }
-}
-
-/// The column of the channel is filled in again, if it is one of these: from the cue on, up to the given end
-/// or else to the next cue that decides the channel.
-fn mend_column(
-    sheet: &mut Sheet,
-    show: &Show,
-    from: CueNo,
-    to: &Option<CueNo>,
-    chans: &ChanSet,
-    c: Chan,
-)
-    requires { CanMend show.now sheet.old from to.now chans.now }
-    ensures column { StandsIn show.now c sheet.new }
-    ensures others { CanMend show.now sheet.new from to.now chans.now }
-    ensures stays { (x n : ℕ) → x ≢ c → level_of sheet.new n x ≡ level_of sheet.old n x }
-{
-    if !chans.contains(c) {
-        return;
-    }
-    match to {
-        Some(end) => sheet.changed_until(show, from, Some(*end), c),
-        None => sheet.changed_on(show, from, c),
+        k = c.get();
     }
 }

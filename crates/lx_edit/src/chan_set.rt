@@ -1,6 +1,6 @@
 //! A set of channels.
 
-ghost use Rattle.std.specs.Prelude.{◌≡◌, ◌≤◌, ◌<◌, ◌+◌, ℕ, ◌==◌, ◌||◌, true, false};
+ghost use Rattle.std.specs.Prelude.{◌≡◌, ◌≤◌, ◌<◌, ℕ, ◌==◌, ◌||◌, true, false, None, IfSome};
 ghost use Rattle.lx_base.specs.declared.TheConstants.{CHANNELS};
 
 use lx_base::{CHANNELS, Chan};
@@ -54,17 +54,26 @@ impl ChanSet {
         self.words[at] |= 1 << (place % 64);
     }
 
-    /// The 64 channels from the number on share a word, and none of them is in the set.
-    pub fn is_clear_from(&self, k: u32) -> bool
-        requires least { 1 ≤ k }
-        requires most { k ≤ CHANNELS }
-        ensures { result ≡ true → (x : ℕ) → k ≤ x → x < k + 64 → has_chan self.now x ≡ false }
+    /// The least channel of the set above the one number, up to the other.
+    pub fn next_above(&self, k: u32, last: u32) -> Option<Chan>
+        requires last { last ≤ CHANNELS }
+        ensures found { IfSome result (λ c. (k < c) × (c ≤ last) × (has_chan self.now c ≡ true)) }
+        ensures first { IfSome result (λ c. (x : ℕ) → k < x → x < c → has_chan self.now x ≡ false) }
+        ensures none { result ≡ None → (x : ℕ) → k < x → x ≤ last → has_chan self.now x ≡ false }
     {
-        let place = k - 1;
-        if place % 64 != 0 {
-            return false;
+        let mut place = k;
+        while place < last {
+            if self.words[(place / 64) as usize] >> (place % 64) == 0 {
+                place = place / 64 * 64 + 64;
+            } else {
+                let c = Chan::at(place as usize);
+                if self.contains(c) {
+                    return Some(c);
+                }
+                place += 1;
+            }
         }
-        self.words[(place / 64) as usize] == 0
+        None
     }
 
     /// It is no gain to go through a sheet column by column for this many channels.

@@ -1,9 +1,8 @@
 use Rattle.lx_console.proofs.Imports.{◌≡◌, ℕ, ◌+◌, ◌-◌, ◌<◌, ◌≤◌, false, length, has_chan, StackStandsAt}
 use Rattle.lx_console.proofs.levels.recompute_touched.Given as goal
 
-abbrev pub invariant-loop-k : goal.invariant-loop-k
-invariant-loop-k l = record {
-  count : l.count ≡ l.show.channels;
+abbrev pub invariant-loop-c : goal.invariant-loop-c
+invariant-loop-c l = record {
   moment : l.levels.moment ≡ l.playback.moment;
   reach : length l.levels.stacks ≡ l.show.channels;
   same : l.changed ≡ false → l.levels ≡ l.initial.levels;
@@ -11,5 +10,5 @@ invariant-loop-k l = record {
   left : (i : ℕ) → l.k ≤ i → i < l.show.channels → has_chan l.chans (i + 1) ≡ false → StackStandsAt l.show l.playback l.levels i;
 }
 
-abbrev pub decreases-loop-k : goal.decreases-loop-k
-decreases-loop-k l = l.count - l.k
+abbrev pub decreases-loop-c : goal.decreases-loop-c
+decreases-loop-c l = l.show.channels - l.k
