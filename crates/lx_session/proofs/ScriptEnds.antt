@@ -6,7 +6,7 @@ use Rattle.lx_session.proofs.Imports.{Appends-kept, map-append, length-map, Appe
 use Rattle.lx_session.proofs.Imports.{LinesBetween, handed_then, all_texts, without_cr, lines_of, first_lines, Session, Answering, begin_at, after_each}
 use Rattle.lx_session.proofs.Imports.{AreAllowed, ends_script, answered_lines, whole_session, session_after, Allows, Tally, Known, QuitLine, HalfAnsweredLine}
 use Rattle.lx_session.proofs.Imports.{Untouched, ScriptEnd, SinkStop, LineOutcome, counts_in, IsLawful, AnsweredWhole, AnsweredPrefix, AnsweredTaken}
-use Rattle.lx_session.proofs.Imports.{ScriptAnswered, KeepsLimit, SessionFault, ToldBySource, AppendsAtLeast, ◌-◌, ◌≤◌, refl}
+use Rattle.lx_session.proofs.Imports.{ScriptAnswered, KeepsLimit, SessionFault, ToldBySource, AppendsAtLeast, ◌-◌, ◌≤◌}
 use Rattle.std.proofs.Math.Seq.{take-append_seam, take-append-add, take-append-le}
 use Rattle.lx_lex.proofs.CuttingOff.{cut_off}
 use Rattle.lx_session.specs.declared.fault.SessionFault.TheVariants.{ReadFault, WriteFault, InputTooLong, Memory}
