@@ -17,7 +17,7 @@ pub use Rattle.lx_lex.specs.LinesHandedOut.{HandedOut}
 pub use Rattle.lx_lex.specs.Unread.{current_line, unread}
 pub use Rattle.lx_lex.specs.declared.lines.Lines.{Lines}
 pub use Rattle.lx_session.specs.Attempts.{AcceptedStep, after_commands, Attempted, heard_of, ListenedAttempt}
-pub use Rattle.lx_session.specs.Known.{Known}
+pub use Rattle.lx_session.specs.Known.{AppendsAtLeast, Known}
 pub use Rattle.lx_session.specs.LineAnswer.{LineAnswer, SparedAnswer}
 pub use Rattle.lx_session.specs.LineOutcome.{AnsweredLine, DoneLine, FromSession, HalfAnsweredLine, LineOutcome, PassedLine, QuitLine, ReplyOutcome}
 pub use Rattle.lx_session.specs.LineOutcome.{ReplyPrefix, ScriptEnd, SinkStop, UnreadLine, Untouched}

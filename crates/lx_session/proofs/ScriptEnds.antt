@@ -6,12 +6,12 @@ use Rattle.lx_session.proofs.Imports.{Appends-kept, map-append, length-map, Appe
 use Rattle.lx_session.proofs.Imports.{LinesBetween, handed_then, all_texts, without_cr, lines_of, first_lines, Session, Answering, begin_at, after_each}
 use Rattle.lx_session.proofs.Imports.{AreAllowed, ends_script, answered_lines, whole_session, session_after, Allows, Tally, Known, QuitLine, HalfAnsweredLine}
 use Rattle.lx_session.proofs.Imports.{Untouched, ScriptEnd, SinkStop, LineOutcome, counts_in, IsLawful, AnsweredWhole, AnsweredPrefix, AnsweredTaken}
-use Rattle.lx_session.proofs.Imports.{ScriptAnswered, KeepsLimit, SessionFault, ToldBySource}
-use Rattle.std.proofs.Math.Seq.{take-append_seam, take-append-add}
+use Rattle.lx_session.proofs.Imports.{ScriptAnswered, KeepsLimit, SessionFault, ToldBySource, AppendsAtLeast, ◌-◌, ◌≤◌}
+use Rattle.std.proofs.Math.Seq.{take-append_seam, take-append-add, take-append-le}
 use Rattle.lx_lex.proofs.CuttingOff.{cut_off}
 use Rattle.lx_session.specs.declared.fault.SessionFault.TheVariants.{ReadFault, WriteFault, InputTooLong, Memory}
 use Rattle.lx_session.proofs.EachLine.{more_text, allowed_further}
-use Rattle.lx_session.proofs.SoFar.{GoOn, Done, SoFar, Passed, done_more, over, with_both}
+use Rattle.lx_session.proofs.SoFar.{GoOn, Done, SoFar, Passed, before_last, done_more, over, with_both}
 use Rattle.lx_session.proofs.SoFar.{begins, begins_more, ends_after, ends_here, too_long}
 
 -- what the lines before the end are
@@ -111,13 +111,26 @@ front_made : (a b : Option (List ℕ)) (front rest text : List ℕ) → text ≡
 front_made a b front rest text is p = AppendsFront-from a b text (length front)
     (subst (λ (v : List ℕ). Appends a b v) (sym (ap (take (length front)) is ∙ take-append_seam front rest)) p)
 
+-- the text of all lines but the last, where other lines stand behind them
+but_last : (by : Answering (List ℕ)) (state : by.State) (raws rest : List (List ℕ)) (failures : List (Option ℕ)) (h h' : Known)
+    → AppendsAtLeast h h' (after_each by failures (begin_at state) (take (length (map without_cr raws) - 1) (map without_cr raws))).text
+    → AppendsAtLeast h h' (after_each by failures (begin_at state) (take (length raws - 1) (map without_cr raws ++ rest))).text
+but_last by state raws rest failures h h' p =
+    let lines = map without_cr raws in
+    let count : length lines ≡ length raws = length-map raws without_cr in
+    let first : take (length raws - 1) (lines ++ rest) ≡ take (length raws - 1) lines =
+    take-append-le (length raws - 1) lines rest (omega (arith, count)) in
+    subst (λ ls. AppendsAtLeast h h' (after_each by failures (begin_at state) ls).text)
+    (ap (λ n. take (n - 1) lines) count ∙ sym first) p
+
 -- The sink failed.
 answers_front : (by : Answering (List ℕ)) (Stands : by.State → Type 0) (state : by.State) (xs : List ℕ) (o : Known)
     (lines rest : List (List ℕ)) (failures : List (Option ℕ)) (now : Session by.State) (n : ℕ) (h h' : Known) (written more : List ℕ)
     → answered_lines (lines_of xs) ≡ lines ++ rest → take n (lines ++ rest) ≡ lines → Done by state lines failures now
-    → IfSome o (λ ys. xs ≡ first_lines n xs ++ ys) → now.text ≡ written ++ more → Appends h h' written → Stands now.state
+    → IfSome o (λ ys. xs ≡ first_lines n xs ++ ys) → now.text ≡ written ++ more → Appends h h' written
+    → AppendsAtLeast h h' (after_each by failures (begin_at state) (take (n - 1) (lines ++ rest))).text → Stands now.state
     → AnsweredPrefix by Stands state xs o h h'
-answers_front by Stands state xs o lines rest failures now n h h' written more is first done handed text appended stands =
+answers_front by Stands state xs o lines rest failures now n h h' written more is first done handed text appended earlier stands =
     let same = session_after_is by state (lines_of xs) lines rest failures now n is first done in
     record {
       failures = failures;
@@ -125,6 +138,7 @@ answers_front by Stands state xs o lines rest failures now n h h' written more i
       lines = n;
       handed = handed;
       text = front_made h h' written more (session_after by state (lines_of xs) failures n).text (ap (λ s. s.text) same ∙ text) appended;
+      earlier = subst (λ ls. AppendsAtLeast h h' (after_each by failures (begin_at state) (take (n - 1) ls)).text) (sym is) earlier;
       stands = subst (λ (s : Session by.State). Stands s.state) (sym same) stands;
     }
 
@@ -136,12 +150,27 @@ stops : {S : Type 0} (by : Answering (List ℕ)) (Stood Stands : by.State → Ty
     → IfSome (unread told a) (λ bytes. AnsweredPrefix by Stands state bytes (unread told c) h h'')
 stops by Stood Stands told a b c state tally h h' h'' s u same =
     let lines = map without_cr s.raws in
+    let appended = Appends-kept h h' h'' s.now.text s.appended u.kept in
+    let first = s.done.earlier in
     with_both (unread told a) _ _ _ (begins (unread told a) (unread told b) a.taken b.taken s.raws s.handed.took)
     (handed_still (unread told a) (unread told b) (unread told c) a.taken b.taken s.raws s.handed.took same) (λ xs is handed.
     answers_front by Stands state xs (unread told c) lines (before_first ends_script is.0) s.failures s.now (length s.raws) h h'' s.now.text []
     (ap (before_first ends_script) is.1 ∙ before_end lines is.0 s.done.go_on) (take_raws s.raws (before_first ends_script is.0)) s.done
-    handed
-    (sym (append-nil s.now.text)) (Appends-kept h h' h'' s.now.text s.appended u.kept) u.stands)
+    handed (sym (append-nil s.now.text)) appended
+    (but_last by state s.raws (before_first ends_script is.0) s.failures h h''
+    (first.more, subst (λ (v : List ℕ). Appends h h'' v) first.text appended)) u.stands)
+
+-- all lines but the one that ends the script
+all_but_quit : (by : Answering (List ℕ)) (state : by.State) (raws : List (List ℕ)) (raw : List ℕ) (failures : List (Option ℕ))
+    (now : Session by.State) (h h' : Known) → Done by state (map without_cr raws) failures now → Appends h h' now.text
+    → AppendsAtLeast h h' (after_each by failures (begin_at state) (take (length (raws ++ raw ∷ []) - 1) (map without_cr raws ++ []))).text
+all_but_quit by state raws raw failures now h h' done appended =
+    let lines = map without_cr raws in
+    let most : length (lines ++ []) ≤ length (raws ++ raw ∷ []) - 1 =
+    omega (arith, length-append raws (raw ∷ []), length-map raws without_cr, ap length (append-nil lines)) in
+    let is = ap (λ ls. after_each by failures (begin_at state) ls) (take_all (length (raws ++ raw ∷ []) - 1) (lines ++ []) most ∙ append-nil lines)
+    ∙ done.is in
+    ([], subst (λ (v : List ℕ). Appends h h' v) (ap (λ (s : Session by.State). s.text) (sym is) ∙ sym (append-nil _)) appended)
 
 -- after the line that ends the script
 stops_at_quit : {S : Type 0} (by : Answering (List ℕ)) (Stood Stands : by.State → Type 0)
@@ -150,13 +179,14 @@ stops_at_quit : {S : Type 0} (by : Answering (List ℕ)) (Stood Stands : by.Stat
     → IfSome (unread told a) (λ bytes. AnsweredPrefix by Stands state bytes (unread told c) h h'')
 stops_at_quit by Stood Stands told a b c state tally h h' h'' s u q =
     let lines = map without_cr s.raws in
+    let appended = Appends-kept h h' h'' s.now.text s.appended u.kept in
     let both = handed_then told a b c s.raws (q.raw ∷ []) s.handed q.handed in
     with_both (unread told a) _ _ _ (begins_more (unread told a) (unread told c) a.taken c.taken s.raws q.raw both.took)
     (handed_all (unread told a) (unread told c) a.taken c.taken (s.raws ++ q.raw ∷ []) both.took) (λ xs is handed.
     answers_front by Stands state xs (unread told c) lines [] s.failures s.now (length (s.raws ++ q.raw ∷ [])) h h'' s.now.text []
     (ap (before_first ends_script) is.1 ∙ before_quit lines (without_cr q.raw) is.0 s.done.go_on q.quits ∙ sym (append-nil lines))
-    (take_past s.raws q.raw) s.done handed
-    (sym (append-nil s.now.text)) (Appends-kept h h' h'' s.now.text s.appended u.kept) u.stands)
+    (take_past s.raws q.raw) s.done handed (sym (append-nil s.now.text)) appended
+    (all_but_quit by state s.raws q.raw s.failures s.now h h'' s.done appended) u.stands)
 
 -- within a reply
 stops_in_reply : {S : Type 0} (by : Answering (List ℕ)) (Stood Stands : by.State → Type 0)
@@ -176,13 +206,19 @@ stops_in_reply by Stood Stands told a b c state tally h h' h'' s t =
     let done : Done by state lines failures w.next =
     subst (λ ls. Done by state ls failures w.next) (sym (map-append without_cr s.raws (t.raw ∷ [])))
     (done_more by Stands state (map without_cr s.raws) s.failures s.now (without_cr t.raw) reply s.done w) in
+    let before : after_each by failures (begin_at state) (take (length lines - 1) lines) ≡ s.now =
+    ap (λ ls. after_each by failures (begin_at state) (take (length ls - 1) ls)) (map-append without_cr s.raws (t.raw ∷ []))
+    ∙ before_last by state (map without_cr s.raws) s.failures s.now (without_cr t.raw) w.failed s.done in
+    let appended = Appends-trans h h' h'' s.now.text front s.appended part.1 in
     with_both (unread told a) _ _ _ (begins (unread told a) (unread told c) a.taken c.taken raws both.took)
     (handed_all (unread told a) (unread told c) a.taken c.taken raws both.took) (λ xs is handed.
     answers_front by Stands state xs (unread told c) lines (before_first ends_script is.0) failures w.next
     (length raws) h h'' (s.now.text ++ front) rest
     (ap (before_first ends_script) is.1 ∙ before_end lines is.0 done.go_on) (take_raws raws (before_first ends_script is.0)) done handed
     (w.text ∙ ap (λ v. s.now.text ++ v) (sym (take-append-drop part.0 reply)) ∙ sym (append_assoc s.now.text front rest))
-    (Appends-trans h h' h'' s.now.text front s.appended part.1) w.stands)
+    appended
+    (but_last by state raws (before_first ends_script is.0) failures h h''
+    (subst (λ (v : Session by.State). AppendsAtLeast h h'' v.text) (sym before) (front, appended))) w.stands)
 
 so_far_stops : {S : Type 0} (by : Answering (List ℕ)) (Stood Stands : by.State → Type 0)
     (told : ToldBySource S) (a b c : Lines S) (state : by.State) (tally : Tally) (h h' h'' : Known)
@@ -251,7 +287,7 @@ fails_by_limit by Stood Stands told a b c tally tally' h' h'' WriteFault passed 
 fails_by_limit by Stood Stands told a b c tally tally' h' h'' Memory passed o = always (unread told a) _ (λ xs. tt)
 
 -- The replies to the first lines are a front of the replies to all.
-more_of_whole : (by : Answering (List ℕ)) → IsLawful by → (state : by.State) (script : List (List ℕ)) (failures : List (Option ℕ)) (n : ℕ)
+pub more_of_whole : (by : Answering (List ℕ)) → IsLawful by → (state : by.State) (script : List (List ℕ)) (failures : List (Option ℕ)) (n : ℕ)
     → (more : List ℕ) × ((whole_session by state script failures).text ≡ (session_after by state script failures n).text ++ more)
 more_of_whole by lawful state script failures n =
     let lines = answered_lines script in
@@ -286,6 +322,7 @@ module _ (by : Answering (List ℕ)) (Stands Stands' : by.State → Type 0) (als
     lines = a.lines;
     handed = a.handed;
     text = a.text;
+    earlier = a.earlier;
     stands = also _ a.stands;
   }
 

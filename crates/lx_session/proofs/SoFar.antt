@@ -5,7 +5,8 @@ use Rattle.lx_session.proofs.Imports.{append_assoc, length-append, arith, positi
 use Rattle.lx_session.proofs.Imports.{map-append, length-map, INPUT_BYTES, Lines, HandedOut, unread, current_line, handed_none, handed_then, LinesBetween}
 use Rattle.lx_session.proofs.Imports.{StepOf, texts, lines_within, next_too_long, without_cr, lines_of, first_lines, Session, Answering, begin_at, after_each}
 use Rattle.lx_session.proofs.Imports.{AreAllowed, ends_script, lines_wanted, bytes_wanted, Tally, Known, DoneLine, PassedLine, QuitLine, AnsweredLine}
-use Rattle.lx_session.proofs.Imports.{counts_in, ToldBySource}
+use Rattle.lx_session.proofs.Imports.{counts_in, ToldBySource, ◌-◌, take, ExtendsText}
+use Rattle.std.proofs.Math.Seq.{take-append_seam}
 use Rattle.lx_lex.specs.declared.lines.Step.TheVariants.{InputTooLong}
 use Rattle.lx_lex.proofs.FirstLines.{first_lines-longer}
 use Rattle.lx_session.proofs.EachLine.{each-append, allowed-append}
@@ -14,20 +15,31 @@ use Rattle.lx_session.proofs.EachLine.{each-append, allowed-append}
 abbrev pub GoOn : List (List ℕ) → Type 0
 GoOn script = AllByRecursion (λ line. ends_script line ≡ false) script
 
--- The lines are done from a state on, and the session has come so far.
+-- The lines are done from a state on, and the session has come so far. Its text begins with that of all lines but the last.
 pub record Done (by : Answering (List ℕ)) (state : by.State) (script : List (List ℕ)) (failures : List (Option ℕ)) (now : Session by.State)
     : Type 0 where
   pub go_on : GoOn script
   pub each : length failures ≡ length script
   pub is : after_each by failures (begin_at state) script ≡ now
   pub allowed : AreAllowed by failures (begin_at state) script
+  pub earlier : ExtendsText (after_each by failures (begin_at state) (take (length script - 1) script)) now
 
 pub done_none : (by : Answering (List ℕ)) (state : by.State) → Done by state [] [] (begin_at state)
-done_none by state = record { go_on = tt; each = refl; is = refl; allowed = tt }
+done_none by state = record { go_on = tt; each = refl; is = refl; allowed = tt; earlier = record { more = []; text = refl } }
 
 pub go_on_append : (xs : List (List ℕ)) (l : List ℕ) → GoOn xs → ends_script l ≡ false → GoOn (xs ++ l ∷ [])
 go_on_append [] l all more = (more, tt)
 go_on_append (x ∷ xs) l all more = (all.0, go_on_append xs l all.1 more)
+
+-- before one more line the session had come this far
+pub before_last : (by : Answering (List ℕ)) (state : by.State) (script : List (List ℕ)) (failures : List (Option ℕ)) (now : Session by.State)
+    (line : List ℕ) (failed : Option ℕ) → Done by state script failures now
+    → after_each by (failures ++ failed ∷ []) (begin_at state) (take (length (script ++ line ∷ []) - 1) (script ++ line ∷ [])) ≡ now
+before_last by state script failures now line failed done =
+    let count : length (script ++ line ∷ []) - 1 ≡ length script = omega (arith, length-append script (line ∷ [])) in
+    ap (λ ls. after_each by (failures ++ failed ∷ []) (begin_at state) ls)
+    (ap (λ n. take n (script ++ line ∷ [])) count ∙ take-append_seam script (line ∷ []) ∙ sym (append-nil script))
+    ∙ each-append by failures (failed ∷ []) (begin_at state) script [] done.each ∙ done.is
 
 -- one more line
 pub done_more : (by : Answering (List ℕ)) (Stands : by.State → Type 0) (state : by.State) (script : List (List ℕ))
@@ -42,6 +54,11 @@ done_more by Stands state script failures now line reply done w =
           ∙ ap (λ s. by.answer w.failed s line) done.is ∙ w.goes_on.is;
       allowed = allowed-append by failures one (begin_at state) script (line ∷ []) done.each done.allowed
           (subst (λ s. AreAllowed by one s (line ∷ [])) (sym done.is) (w.goes_on.allowed, tt));
+      earlier = record {
+        more = reply;
+        text = w.text ∙ ap (λ (s : Session by.State). s.text ++ reply)
+            (sym (before_last by state script failures now line w.failed done));
+      };
     }
 
 -- The lines that were handed out from a to b are done and answered, and what answers stands for the state after them.

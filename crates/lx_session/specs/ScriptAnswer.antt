@@ -1,11 +1,11 @@
 -- What a session over the lines of a script comes to.
-use Rattle.std.specs.Prelude.{◌≡◌, ◌<◌, ℕ, Option, IfSome, Result, Ok, Err, List, ◌++◌}
+use Rattle.std.specs.Prelude.{◌≡◌, ◌<◌, ℕ, ◌-◌, Option, IfSome, Result, Ok, Err, List, ◌++◌}
 use Rattle.std.specs.Io.KnownBytes.{Appends}
 use Rattle.lx_io.specs.Puts.{AppendsFront}
 use Rattle.lx_spec.specs.Text.{lines_of}
 use Rattle.lx_spec.specs.CutInput.{first_lines, CutOff}
 use Rattle.lx_spec.specs.Session.{Answering, whole_session, session_after, Allows, lines_wanted}
-use Rattle.lx_session.specs.Known.{Known}
+use Rattle.lx_session.specs.Known.{Known, AppendsAtLeast}
 use Rattle.lx_session.specs.declared.fault.SessionFault.{SessionFault}
 use Rattle.lx_session.specs.declared.fault.SessionFault.TheVariants.{ReadFault, WriteFault, InputTooLong, Memory}
 use Rattle.lx_session.specs.declared.tally.Tally.{Tally}
@@ -20,7 +20,8 @@ pub record AnsweredWhole (by : Answering (List ℕ)) (Stands : by.State → Type
   pub counts : counts_in tally ≡ (whole_session by state script failures).counts
   pub stands : Stands (whole_session by state script failures).state
 
--- This many lines were handed out and done, and a prefix of the text that answers them was written.
+-- This many lines were handed out and done, and a prefix of the text that answers them was written. The replies to all of them but the
+-- last were written whole, so that none is done behind the one at whose reply the sink failed.
 pub record AnsweredPrefix (by : Answering (List ℕ)) (Stands : by.State → Type 0) (state : by.State)
     (bytes : List ℕ) (unread held held' : Known) : Type 0 where
   pub failures : List (Option ℕ)
@@ -28,6 +29,7 @@ pub record AnsweredPrefix (by : Answering (List ℕ)) (Stands : by.State → Typ
   pub lines : ℕ
   pub handed : IfSome unread (λ rest. bytes ≡ first_lines lines bytes ++ rest)
   pub text : AppendsFront held held' (session_after by state (lines_of bytes) failures lines).text
+  pub earlier : AppendsAtLeast held held' (session_after by state (lines_of bytes) failures (lines - 1)).text
   pub stands : Stands (session_after by state (lines_of bytes) failures lines).state
 
 -- The lines that were taken whole, within the limit of the input, were done and wholly answered, and the script wants more of them. `left`

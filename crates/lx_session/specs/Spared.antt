@@ -7,6 +7,10 @@ use Rattle.lx_spec.specs.Session.{Answering}
 abbrev pub HasStood : ℕ → ℕ → Type 0
 HasStood before now = now < one_more before
 
+-- What holds where memory was ample and where it may not have been: it was, if the heap refused nothing.
+abbrev pub ByMemory : (refusals refusals' : ℕ) → (Bool → Type 0) → Type 0
+ByMemory refusals refusals' P = (ample : Bool) → (ample ≡ true → HasStood refusals refusals') → P ample
+
 -- No attempt had to fail: all were admitted, and the heap refused nothing.
 pub record IsAmple (admitted_all : Bool) (before now : ℕ) : Type 0 where
   pub admitted : admitted_all ≡ true
