@@ -8,6 +8,7 @@ use Rattle.lx_spec.specs.DeskSession.{begun}
 use Rattle.lx_spec.specs.Desk.{Desk}
 use Rattle.lx_spec.specs.Kept.{Kept}
 use Rattle.lx_console.specs.ConsoleMeaning.{StandsFor}
+pub use Rattle.lx_session.specs.Known.{AppendsAtLeast}
 use Rattle.lx_session.specs.declared.tally.Tally.{Tally}
 use Rattle.lx_session.specs.LineReply.{counts_in}
 use Rattle.lx_session.specs.Spared.{spared}
@@ -26,10 +27,6 @@ pub record WholeTranscript (ample : Bool) (d : Desk) (lines : ℕ → List (List
   pub text : Appends held held' (crew_text d entries failures)
   pub counts : counts_in tally ≡ (crew_session d entries failures).counts
   pub stands : StandsFor (crew_session d entries failures).state.desk console
-
--- this text was appended, and behind it more, or nothing
-abbrev pub AppendsAtLeast : (held held' : Option (List ℕ)) → List ℕ → Type 0
-AppendsAtLeast held held' text = (more : List ℕ) × Appends held held' (text ++ more)
 
 -- all of a list but its last, and its last alone, if it has one
 abbrev pub all_but_last : {A : Type 0} → List A → List A
