@@ -294,3 +294,19 @@ answered_flush result ample d popped start h h' console tally output output' non
     subst (λ o. HasAnswered ample d popped start h console tally o) none so_far in
     subst (λ o. HasAnswered ample d popped start h' console tally o) (sym is)
     (flushed_by result ample d popped start h' console tally (answered_kept ample d popped start h h' console tally a kept))
+
+-- What comes after a fault of the output is thrown away.
+pub thrown_away : (ample : Bool) (d : Desk) (popped : List Message) (start h : Option (List ℕ)) (console : Kept) (tally : Tally)
+    (entry : Message) (output : Option SinkFault) → true ≡ is_some output → HasAnswered ample d popped start h console tally output
+    → HasAnswered ample d (popped ++ entry ∷ []) start h console tally output
+thrown_away ample d popped start h console tally entry None is a = absurd (true≢false is)
+thrown_away ample d popped start h console tally entry (Some fault) is a = record {
+  first = a.first;
+  rest = a.rest ++ entry ∷ [];
+  are = ap (λ (l : List Message). l ++ entry ∷ []) a.are ∙ append_assoc a.first a.rest (entry ∷ []);
+  failures = a.failures;
+  allows = a.allows;
+  text = a.text;
+  earlier = a.earlier;
+  stopped = a.stopped;
+}
