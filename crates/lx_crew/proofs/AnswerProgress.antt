@@ -1,15 +1,17 @@
 -- What is answered so far, and with one more entry.
 use Rattle.lx_crew.proofs.Imports.{◌≡◌, inl, inr, ℕ, ◌+◌, Bool, false, true≢false, Option, Some, None, Result, Ok, Err, List, [], ◌∷◌}
-use Rattle.lx_crew.proofs.Imports.{◌++◌, length, take, drop, take-append-drop, refl, sym, ap, ◌∙◌, subst, append-nil, append_assoc, arith}
-use Rattle.lx_crew.proofs.Imports.{length-append, IfSome, is_some, Appends, Keeps, take-append_seam, length-replicate, LINE_BYTES, SinkFault, AppendsFront}
+use Rattle.lx_crew.proofs.Imports.{◌++◌, take, drop, take-append-drop, refl, sym, ap, ◌∙◌, subst, append-nil, append_assoc, arith}
+use Rattle.lx_crew.proofs.Imports.{length-append, IfSome, is_some, Appends, Keeps, length-replicate, LINE_BYTES, SinkFault, AppendsFront}
 use Rattle.lx_crew.proofs.Imports.{CrewEntry, op_text, named, after_entry, crew_answering, crew_text, Desk, Kept, line_of, Session, begin_at, AreAllowed}
 use Rattle.lx_crew.proofs.Imports.{DeskState, begun, IsAcceptedEdit, StandsFor, Tally, meaning_is, extends_line, Message, Line, LongLine, text_in, long_line}
 use Rattle.lx_crew.proofs.Imports.{named_line, entries_of, said, NamedAnswer, AnswersNamed, IsDoneWithEntries, AnsweredAll, AnsweredPart, HasAnswered}
-use Rattle.lx_crew.proofs.Imports.{ToldBySink, true, HasStood, IsAmple, MayFailUnless, spared}
+use Rattle.lx_crew.proofs.Imports.{ToldBySink, true, HasStood, IsAmple, MayFailUnless, spared, AppendsAtLeast, crew_session, all_but_last}
+use Rattle.lx_crew.proofs.Imports.{text_to_last_name}
 use Rattle.std.specs.Result.{result_err}
 use Rattle.std.proofs.KnownBytes.{Appends-nil, Appends-trans, Appends-kept}
 use Rattle.std.proofs.lemmas.Grind.{flat_map-append}
-use Rattle.lx_io.proofs.Chain.{AppendsFront-is, AppendsFront-from}
+use Rattle.lx_io.proofs.Chain.{AppendsFront-is}
+use Rattle.lx_crew.proofs.LastEntries.{at_least_first, at_least_then, front_of, front_then, names_written, session_before, text_before}
 use Rattle.lx_session.specs.LineAnswer.{FromDesk, SparedAnswer}
 use Rattle.lx_spec.specs.declared.Line.{Line as Meant}
 use Rattle.lx_session.specs.LineReply.{counts_in}
@@ -60,9 +62,29 @@ pub answered_none : (ample : Bool) (d : Desk) (h : Option (List ℕ)) (console :
 answered_none ample d h console tally stands counts =
     record { failures = []; now = begin_at (begun d); done = done_none ample d; text = Appends-nil h; counts = sym counts; stands = stands }
 
-front_of : (a b : Option (List ℕ)) (front rest text : List ℕ) → text ≡ front ++ rest → Appends a b front → AppendsFront a b text
-front_of a b front rest text is p = AppendsFront-from a b text (length front)
-    (subst (λ (v : List ℕ). Appends a b v) (sym (ap (take (length front)) is ∙ take-append_seam front rest)) p)
+-- The session before one more entry, and the text up to its name.
+before_of : (ample : Bool) (d : Desk) (popped : List Message) (start h : Option (List ℕ)) (console : Kept) (tally : Tally)
+    (entry : Message) (e : CrewEntry) → (a : AnsweredAll ample d popped start h console tally)
+    → entries_of entry.place entry.number entry.sent ≡ e ∷ [] → (failed : Option ℕ)
+    → crew_session d (all_but_last (said (popped ++ entry ∷ []))) (a.failures ++ failed ∷ []) ≡ a.now
+before_of ample d popped start h console tally entry e a is failed =
+    ap (λ es. crew_session d (all_but_last es) (a.failures ++ failed ∷ [])) (said_more popped entry (e ∷ []) is)
+    ∙ session_before ample d (said popped) a.failures (failed ∷ []) a.now e a.done
+
+name_of : (ample : Bool) (d : Desk) (popped : List Message) (start h : Option (List ℕ)) (console : Kept) (tally : Tally)
+    (entry : Message) (e : CrewEntry) → (a : AnsweredAll ample d popped start h console tally)
+    → entries_of entry.place entry.number entry.sent ≡ e ∷ [] → (failed : Option ℕ)
+    → text_to_last_name d (said (popped ++ entry ∷ [])) (a.failures ++ failed ∷ []) ≡ a.now.text ++ op_text e
+name_of ample d popped start h console tally entry e a is failed =
+    ap (λ es. text_to_last_name d es (a.failures ++ failed ∷ [])) (said_more popped entry (e ∷ []) is)
+    ∙ text_before ample d (said popped) a.failures (failed ∷ []) a.now e a.done
+
+earlier_of : (ample : Bool) (d : Desk) (popped : List Message) (start h h' : Option (List ℕ)) (console : Kept) (tally : Tally)
+    (entry : Message) (e : CrewEntry) → (a : AnsweredAll ample d popped start h console tally)
+    → entries_of entry.place entry.number entry.sent ≡ e ∷ [] → (failed : Option ℕ) → AppendsAtLeast start h' a.now.text
+    → AppendsAtLeast start h' (crew_text d (all_but_last (said (popped ++ entry ∷ []))) (a.failures ++ failed ∷ []))
+earlier_of ample d popped start h h' console tally entry e a is failed p =
+    subst (λ (s : Session DeskState). AppendsAtLeast start h' s.text) (sym (before_of ample d popped start h console tally entry e a is failed)) p
 
 -- no attempt failed where memory was ample, and else one failed where it may
 may_fail : {K T : Type 0} (ample : Bool) (refusals refusals' : ℕ) (told : ToldBySink K) (sink sink' : K) (result : Result T SinkFault)
@@ -102,7 +124,7 @@ answered_front : {K : Type 0} (ample : Bool) (refusals refusals' : ℕ) (told : 
     → (ample ≡ true → HasStood refusals refusals')
     → (a : AnsweredAll ample d popped start (told.holds sink) console tally) → entries_of entry.place entry.number entry.sent ≡ e ∷ []
     → NamedAnswer refusals refusals' told sink sink' (Err f) a.now (op_text e) (line_of e.line) console' tally'
-    → AnsweredPart ample d (popped ++ entry ∷ []) start (told.holds sink')
+    → AnsweredPart ample d (popped ++ entry ∷ []) start (told.holds sink') console'
 answered_front ample refusals refusals' told sink sink' f d popped start console console' tally tally' entry e stood a is m =
     let w = m.answer.answer in
     let may = may_fail ample refusals refusals' told m.between sink' (Err f) (named a.now e) (line_of e.line) console' tally' stood m.answer in
@@ -110,28 +132,32 @@ answered_front ample refusals refusals' told sink sink' f d popped start console
     let done : IsDoneWithEntries ample d (said (popped ++ entry ∷ [])) failures w.next =
     subst (λ es. IsDoneWithEntries ample d es failures w.next) (sym (said_more popped entry (e ∷ []) is))
     (done_more ample d (said popped) a.failures a.now w.next e w.failed a.done w.goes_on.is may) in
-    let part = AppendsFront-is (told.holds m.between) (told.holds sink') w.reply w.puts.part in
-    let front = (a.now.text ++ op_text e) ++ take part.0 w.reply in
-    let rest = drop part.0 w.reply in
+    let name = a.now.text ++ op_text e in
+    let named = Appends-trans start (told.holds sink) (told.holds m.between) a.now.text (op_text e) a.text m.named in
+    let whole = at_least_then start (told.holds m.between) (told.holds sink') name w.reply named w.puts.part in
     record {
       first = popped ++ entry ∷ [];
       rest = [];
       are = sym (append-nil (popped ++ entry ∷ []));
       failures = failures;
       allows = done.allows;
-      text = front_of start (told.holds sink') front rest (crew_text d (said (popped ++ entry ∷ [])) failures) (ap (λ s. s.text) done.is ∙ w.text
-          ∙ ap (λ v. (a.now.text ++ op_text e) ++ v) (sym (take-append-drop part.0 w.reply))
-          ∙ sym (append_assoc (a.now.text ++ op_text e) (take part.0 w.reply) rest))
-          (Appends-trans start (told.holds m.between) (told.holds sink') (a.now.text ++ op_text e) (take part.0 w.reply)
-          (Appends-trans start (told.holds sink) (told.holds m.between) a.now.text (op_text e) a.text m.named) part.1);
+      text = subst (λ (v : List ℕ). AppendsFront start (told.holds sink') v) (sym (ap (λ s. s.text) done.is ∙ w.text))
+          (front_then start (told.holds m.between) (told.holds sink') name w.reply named w.puts.part);
+      earlier = earlier_of ample d popped start (told.holds sink) (told.holds sink') console tally entry e a is w.failed
+          (at_least_first start (told.holds sink') a.now.text (op_text e) whole);
+      stopped = inl (
+        subst (λ (v : List ℕ). AppendsAtLeast start (told.holds sink') v)
+            (sym (name_of ample d popped start (told.holds sink) console tally entry e a is w.failed)) whole,
+        subst (λ (s : Session DeskState). StandsFor s.state.desk console') (sym done.is) w.stands,
+      );
     }
 
 -- or a prefix of its name
-answered_name : (ample : Bool) (d : Desk) (popped : List Message) (start h h' : Option (List ℕ)) (console : Kept) (tally : Tally)
-    (entry : Message) (e : CrewEntry) → AnsweredAll ample d popped start h console tally
-    → entries_of entry.place entry.number entry.sent ≡ e ∷ [] → AppendsFront h h' (op_text e)
-    → AnsweredPart ample d (popped ++ entry ∷ []) start h'
-answered_name ample d popped start h h' console tally entry e a is name =
+answered_name : (ample : Bool) (d : Desk) (popped : List Message) (start h h' : Option (List ℕ)) (console console' : Kept) (tally : Tally)
+    (entry : Message) (e : CrewEntry) → (a : AnsweredAll ample d popped start h console tally)
+    → entries_of entry.place entry.number entry.sent ≡ e ∷ [] → AppendsFront h h' (op_text e) → StandsFor a.now.state.desk console'
+    → AnsweredPart ample d (popped ++ entry ∷ []) start h' console'
+answered_name ample d popped start h h' console console' tally entry e a is name stands =
     let failures = a.failures ++ None ∷ [] in
     let more = extends_line None (named a.now e) (line_of e.line) in
     let done : IsDoneWithEntries ample d (said (popped ++ entry ∷ [])) failures (after_entry None a.now e) =
@@ -153,6 +179,14 @@ answered_name ample d popped start h h' console tally entry e a is name =
           ∙ append_assoc (take part.0 (op_text e)) (drop part.0 (op_text e)) more.more)
           ∙ sym (append_assoc a.now.text (take part.0 (op_text e)) rest))
           (Appends-trans start h h' a.now.text (take part.0 (op_text e)) a.text part.1);
+      earlier = earlier_of ample d popped start h h' console tally entry e a is None
+          (at_least_then start h h' a.now.text (op_text e) a.text name);
+      stopped = inr (
+        subst (λ (v : List ℕ). AppendsFront start h' v) (sym (name_of ample d popped start h console tally entry e a is None))
+            (front_then start h h' a.now.text (op_text e) a.text name),
+        subst (λ (s : Session DeskState). StandsFor s.state.desk console') (sym (before_of ample d popped start h console tally entry e a is None))
+            stands,
+      );
     }
 
 -- a flush leaves what is written
@@ -168,16 +202,21 @@ answered_kept ample d popped start h h' console tally a kept = record {
 }
 
 answered_so_far : (ample : Bool) (d : Desk) (popped : List Message) (start h : Option (List ℕ)) (console : Kept) (tally : Tally)
-    → AnsweredAll ample d popped start h console tally → AnsweredPart ample d popped start h
-answered_so_far ample d popped start h console tally a = record {
-  first = popped;
-  rest = [];
-  are = sym (append-nil popped);
-  failures = a.failures;
-  allows = a.done.allows;
-  text = front_of start h a.now.text [] (crew_text d (said popped) a.failures)
-      (ap (λ s. s.text) a.done.is ∙ sym (append-nil a.now.text)) a.text;
-}
+    → AnsweredAll ample d popped start h console tally → AnsweredPart ample d popped start h console
+answered_so_far ample d popped start h console tally a =
+    let text : Appends start h (crew_text d (said popped) a.failures) =
+    subst (λ (s : Session DeskState). Appends start h s.text) (sym a.done.is) a.text in
+    let names = names_written d (said popped) a.failures start h text in record {
+      first = popped;
+      rest = [];
+      are = sym (append-nil popped);
+      failures = a.failures;
+      allows = a.done.allows;
+      text = front_of start h (crew_text d (said popped) a.failures) [] (crew_text d (said popped) a.failures)
+          (sym (append-nil (crew_text d (said popped) a.failures))) text;
+      earlier = at_least_first start h _ _ names;
+      stopped = inl (names, subst (λ (s : Session DeskState). StandsFor s.state.desk console) (sym a.done.is) a.stands);
+    }
 
 -- An entry has a line, which is given or, being too long, isn't.
 pub record IsSaid (entry : Message) (given : Option (List ℕ)) : Type 0 where
@@ -211,7 +250,7 @@ answered_by ample refusals refusals' told sink sink' (Ok b) d popped start conso
 answered_by ample refusals refusals' told sink sink' (Ok b) d popped start console console' tally tally' entry e stood a is (inr m) =
     answered_line ample refusals refusals' told sink sink' b d popped start console console' tally tally' entry e stood a is m
 answered_by ample refusals refusals' told sink sink' (Err f) d popped start console console' tally tally' entry e stood a is (inl cut) =
-    answered_name ample d popped start (told.holds sink) (told.holds sink') console tally entry e a is cut.1
+    answered_name ample d popped start (told.holds sink) (told.holds sink') console console' tally entry e a is cut.1 cut.2
 answered_by ample refusals refusals' told sink sink' (Err f) d popped start console console' tally tally' entry e stood a is (inr m) =
     answered_front ample refusals refusals' told sink sink' f d popped start console console' tally tally' entry e stood a is m
 
@@ -255,3 +294,19 @@ answered_flush result ample d popped start h h' console tally output output' non
     subst (λ o. HasAnswered ample d popped start h console tally o) none so_far in
     subst (λ o. HasAnswered ample d popped start h' console tally o) (sym is)
     (flushed_by result ample d popped start h' console tally (answered_kept ample d popped start h h' console tally a kept))
+
+-- What comes after a fault of the output is thrown away.
+pub thrown_away : (ample : Bool) (d : Desk) (popped : List Message) (start h : Option (List ℕ)) (console : Kept) (tally : Tally)
+    (entry : Message) (output : Option SinkFault) → true ≡ is_some output → HasAnswered ample d popped start h console tally output
+    → HasAnswered ample d (popped ++ entry ∷ []) start h console tally output
+thrown_away ample d popped start h console tally entry None is a = absurd (true≢false is)
+thrown_away ample d popped start h console tally entry (Some fault) is a = record {
+  first = a.first;
+  rest = a.rest ++ entry ∷ [];
+  are = ap (λ (l : List Message). l ++ entry ∷ []) a.are ∙ append_assoc a.first a.rest (entry ∷ []);
+  failures = a.failures;
+  allows = a.allows;
+  text = a.text;
+  earlier = a.earlier;
+  stopped = a.stopped;
+}

@@ -3,12 +3,13 @@ use Rattle.lx_crew.proofs.Imports.{◌≡◌, inl, inr, ℕ, zero, suc, ◌+◌,
 use Rattle.lx_crew.proofs.Imports.{◌++◌, length, map, slice_get, refl, sym, ap, ◌∙◌, subst, add-one, arith, AllByRecursion, Appends, slice_get_within}
 use Rattle.lx_crew.proofs.Imports.{filter-append, dec_le, Pass, SinkFault, AppendsFront, crew_session, Desk, Kept, Session, DeskState, StandsFor, Tally, Message}
 use Rattle.lx_crew.proofs.Imports.{OperatorFault, Operator, View, said, HasAnswered, of_place, is_last, has_last, EachAt, Retired, owned, engine_view, Learned}
-use Rattle.lx_crew.proofs.Imports.{ScriptHasEnded, last_entry, ToldBySink, ToldBySource, Bool}
+use Rattle.lx_crew.proofs.Imports.{ScriptHasEnded, last_entry, ToldBySink, ToldBySource, Bool, CrewEntry, AppendsAtLeast, HasStopped, all_but_last}
+use Rattle.lx_crew.proofs.Imports.{text_to_last_name}
 use Rattle.lx_crew.specs.declared.fault.OperatorFault.TheVariants.{ReadFault, InputTooLong}
 use Rattle.lx_crew.specs.CrewOutcome.{ScriptIsBack, HasWrittenTranscript, HasCrewed}
 use Rattle.lx_crew.proofs.Lists.{none_front}
 use Rattle.lx_crew.proofs.MergedEntries.{SentAt, AllSent, IsTrueTo, true_entries, by_number, all_true, all_front, merged, merged_so_far}
-use Rattle.lx_crew.proofs.MergedEntries.{same_session, same_allows}
+use Rattle.lx_crew.proofs.MergedEntries.{same_session, same_before, same_name, same_allows}
 use Rattle.lx_crew.proofs.Works.{complete, get_at}
 
 -- Lines that are told of each of a list, by its place.
@@ -69,6 +70,23 @@ sent_at told Its places ys popped items n h len learned ended k (no within) =
       ends = ap is_last s.ends ∙ last_ends y.0.fault;
     }))
 
+-- what was done where the output had a fault, by other entries of the same session
+stopped_at : (d : Desk) (xs ys : List CrewEntry) (failures : List (Option ℕ)) (held held' : Option (List ℕ)) (console : Kept)
+    → crew_session d xs failures ≡ crew_session d ys failures
+    → crew_session d (all_but_last xs) failures ≡ crew_session d (all_but_last ys) failures
+    → text_to_last_name d xs failures ≡ text_to_last_name d ys failures → HasStopped d xs failures held held' console
+    → HasStopped d ys failures held held' console
+stopped_at d xs ys failures held held' console same before name stopped = elim stopped [
+  | inl done ↦ inl (
+    subst (λ (v : List ℕ). AppendsAtLeast held held' v) name done.0,
+    subst (λ (s : Session DeskState). StandsFor s.state.desk console) same done.1,
+  )
+  | inr cut ↦ inr (
+    subst (λ (v : List ℕ). AppendsFront held held' v) name cut.0,
+    subst (λ (s : Session DeskState). StandsFor s.state.desk console) before cut.1,
+  )
+]
+
 -- The transcript was written, or a prefix of one.
 written : (ample : Bool) (d : Desk) (lines : ℕ → List (List ℕ)) (popped : List Message) (held held' : Option (List ℕ)) (console : Kept)
     (tally : Tally) (output : Option SinkFault) → ((k : ℕ) → SentAt lines k (of_place k popped))
@@ -89,12 +107,18 @@ written ample d lines popped held held' console tally None sent a =
 written ample d lines popped held held' console tally (Some fault) sent a =
     let all = all_front (IsTrueTo lines) a.first a.rest (subst (AllByRecursion (IsTrueTo lines)) a.are (all_true lines popped sent)) in
     let same : crew_session d (said a.first) a.failures ≡ crew_session d (true_entries lines a.first) a.failures =
-    same_session lines a.failures a.first d all in record {
-      entries = true_entries lines a.first;
-      merged = merged_so_far lines popped a.first a.rest sent a.are;
-      failures = a.failures;
-      allows = same_allows ample lines a.failures a.first d all a.allows;
-      text = subst (λ (s : Session DeskState). AppendsFront held held' s.text) same a.text;
+    same_session lines a.failures a.first d all in
+    let before = same_before lines a.failures a.first d all in record {
+      prefix = record {
+        entries = true_entries lines a.first;
+        merged = merged_so_far lines popped a.first a.rest sent a.are;
+        failures = a.failures;
+        allows = same_allows ample lines a.failures a.first d all a.allows;
+        text = subst (λ (s : Session DeskState). AppendsFront held held' s.text) same a.text;
+        earlier = subst (λ (s : Session DeskState). AppendsAtLeast held held' s.text) before a.earlier;
+      };
+      stopped = stopped_at d (said a.first) (true_entries lines a.first) a.failures held held' console same before
+          (same_name lines a.failures a.first d all) a.stopped;
     }
 
 -- An operator's source is back, and its lines are these.

@@ -14,7 +14,7 @@ pub use Rattle.lx_crew.specs.Entries.{has_last, HasText, HaveLines, is_last, Num
 pub use Rattle.lx_crew.specs.OperatorWorks.{HasRunOperator, HasSentNothing, Hired, owned, Retired, Works}
 pub use Rattle.lx_crew.specs.Rule.{AddsEntry, engine_view, FitsEngine, FitsOperator, FitsPass, KeepsOrder, Learned, operator_view, spent_view, Takes}
 pub use Rattle.lx_crew.specs.Scripts.{AreLines, ScriptHasEnded}
-pub use Rattle.lx_crew.specs.Transcripts.{CrewAllowsBy}
+pub use Rattle.lx_crew.specs.Transcripts.{AppendsAtLeast, all_but_last, CrewAllowsBy, HasStopped, last_alone, text_to_last_name}
 pub use Rattle.lx_crew.specs.SentLines.{follows, HasSentLines, last_entry, TookNext}
 pub use Rattle.lx_crew.specs.declared.entry.Message.{Message}
 pub use Rattle.lx_crew.specs.declared.entry.Sent.{Sent}

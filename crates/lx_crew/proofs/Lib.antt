@@ -1,5 +1,6 @@
 pub mod AnswerProgress
 pub mod Crews
+pub mod LastEntries
 pub mod Lists
 pub mod MergedEntries
 pub mod Rules

@@ -5,6 +5,8 @@ use Rattle.lx_crew.proofs.Imports.{AllByRecursion, filter-append, CrewEntry, op_
 use Rattle.lx_crew.proofs.Imports.{Session, begin_at, with_text, after_each, AreAllowed, DeskState, begun, after_meaning, IsAcceptedEdit, meaning_is, Message}
 use Rattle.lx_crew.proofs.Imports.{Sent, Line, LongLine, End, ReadFault, InputTooLong, long_line, named_line, entries_of, said, of_place, is_last, HasText}
 use Rattle.lx_crew.proofs.Imports.{HaveLines, of_operator, numbered_from, Merged, MergedSoFar, length-replicate, LINE_BYTES, MayFailUnless, spared}
+use Rattle.lx_crew.proofs.Imports.{length, crew_text, all_but_last, last_alone, text_to_last_name}
+use Rattle.std.specs.Prelude.{flat_map}
 use Rattle.std.proofs.lemmas.Bool.Decides.{nat_tests}
 use Rattle.lx_spec.specs.declared.Line.{Line as Meant}
 use Rattle.lx_crew.proofs.Lists.{none_front, tail_of}
@@ -87,6 +89,48 @@ alike_said : (lines : ℕ → List (List ℕ)) (es : List Message) → AllByRecu
 alike_said lines [] all = tt
 alike_said lines (e ∷ es) all =
     alike_by lines e.place e.number e.sent (said es) (true_entries lines es) all.0 (alike_said lines es all.1)
+
+-- So are those of all of them but the last, and the names of the last.
+alike_take : (n : ℕ) (xs ys : List CrewEntry) → Alike xs ys → Alike (take n xs) (take n ys)
+alike_take zero xs ys alike = tt
+alike_take (suc n) [] [] alike = tt
+alike_take (suc n) [] (y ∷ ys) alike = absurd alike
+alike_take (suc n) (x ∷ xs) [] alike = absurd alike
+alike_take (suc n) (x ∷ xs) (y ∷ ys) alike = (alike.0, (alike.1.0, alike_take n xs ys alike.1.1))
+
+alike_length : (xs ys : List CrewEntry) → Alike xs ys → length xs ≡ length ys
+alike_length [] [] alike = refl
+alike_length [] (y ∷ ys) alike = absurd alike
+alike_length (x ∷ xs) [] alike = absurd alike
+alike_length (x ∷ xs) (y ∷ ys) alike = ap suc (alike_length xs ys alike.1.1)
+
+alike_names : (n : ℕ) (xs ys : List CrewEntry) → Alike xs ys → flat_map op_text (drop n xs) ≡ flat_map op_text (drop n ys)
+alike_names n [] [] alike = refl
+alike_names n [] (y ∷ ys) alike = absurd alike
+alike_names n (x ∷ xs) [] alike = absurd alike
+alike_names zero (x ∷ xs) (y ∷ ys) alike =
+    ap (λ v. v ++ flat_map op_text xs) alike.0 ∙ ap (λ v. op_text y ++ v) (alike_names zero xs ys alike.1.1)
+alike_names (suc n) (x ∷ xs) (y ∷ ys) alike = alike_names n xs ys alike.1.1
+
+pub same_before : (lines : ℕ → List (List ℕ)) (failures : List (Option ℕ)) (es : List Message) (d : Desk)
+    → AllByRecursion (IsTrueTo lines) es
+    → crew_session d (all_but_last (said es)) failures ≡ crew_session d (all_but_last (true_entries lines es)) failures
+same_before lines failures es d all =
+    let xs = said es in
+    let ys = true_entries lines es in
+    let alike = alike_said lines es all in
+    session_alike failures (begin_at (begun d)) (all_but_last xs) (take (length xs - 1) ys) (alike_take (length xs - 1) xs ys alike)
+    ∙ ap (λ n. crew_session d (take (n - 1) ys) failures) (alike_length xs ys alike)
+
+pub same_name : (lines : ℕ → List (List ℕ)) (failures : List (Option ℕ)) (es : List Message) (d : Desk) → AllByRecursion (IsTrueTo lines) es
+    → text_to_last_name d (said es) failures ≡ text_to_last_name d (true_entries lines es) failures
+same_name lines failures es d all =
+    let xs = said es in
+    let ys = true_entries lines es in
+    let alike = alike_said lines es all in
+    ap (λ s. s.text ++ flat_map op_text (last_alone xs)) (same_before lines failures es d all)
+    ∙ ap (λ v. crew_text d (all_but_last ys) failures ++ v) (alike_names (length xs - 1) xs ys alike
+    ∙ ap (λ n. flat_map op_text (drop (n - 1) ys)) (alike_length xs ys alike))
 
 pub same_session : (lines : ℕ → List (List ℕ)) (failures : List (Option ℕ)) (es : List Message) (d : Desk)
     → AllByRecursion (IsTrueTo lines) es → crew_session d (said es) failures ≡ crew_session d (true_entries lines es) failures

@@ -118,10 +118,10 @@ pub retired : {S : Type 0} (told : ToldBySource S) (Its : Pass Message View → 
     (Retired told Its places) ys
 retired told Its carry places xs ys z h = each_zip (HasRunOperator told) (Hired Its places) (Retired told Its places) xs ys z h
     (λ k x y p r. record {
-      its = carry x.pass y.pass r.0 p.its;
+      its = carry x.pass y.pass r.1.0 p.its;
       start = x.source;
       source = p.source;
-      sent = subst (λ (n : ℕ). HasSentLines told n x.source y.source (view y.pass) y.fault) p.place r.1;
+      sent = subst (λ (n : ℕ). HasSentLines told n x.source y.source (view y.pass) y.fault) p.place r.1.1;
     })
 
 pub retired_works : {S : Type 0} (told : ToldBySource S) (Its : Pass Message View → Type 0) (places : List (Option S)) (ys : List (Operator S))

@@ -7,7 +7,7 @@ use Rattle.lx_spec.specs.Kept.{Kept}
 use Rattle.lx_session.specs.declared.tally.Tally.{Tally}
 use Rattle.lx_crew.specs.declared.fault.OperatorFault.{OperatorFault}
 use Rattle.lx_crew.specs.Scripts.{ScriptHasEnded}
-use Rattle.lx_crew.specs.Transcripts.{WholeTranscript, TranscriptPrefix}
+use Rattle.lx_crew.specs.Transcripts.{WholeTranscript, StoppedTranscript}
 
 -- an operator's source is back in its place, and these were its lines
 pub record ScriptIsBack {S : Type 0} (told_in : ToldBySource S) (places : List (Option S)) (told : List (Option OperatorFault))
@@ -18,11 +18,11 @@ pub record ScriptIsBack {S : Type 0} (told_in : ToldBySource S) (places : List (
   pub fault_is : slice_get told place ≡ Some fault
   pub ended : ScriptHasEnded told_in start source fault lines
 
--- the transcript, or a prefix of one where the output had a fault
+-- the transcript, or a prefix of one where the output had a fault, and then no line behind it is done
 abbrev pub HasWrittenTranscript : (ample : Bool) → Desk → (ℕ → List (List ℕ)) → (held held' : Option (List ℕ)) → Kept → Tally
     → Option SinkFault → Type 0
 HasWrittenTranscript ample d lines held held' console tally None = WholeTranscript ample d lines held held' console tally
-HasWrittenTranscript ample d lines held held' console tally (Some fault) = TranscriptPrefix ample d lines held held'
+HasWrittenTranscript ample d lines held held' console tally (Some fault) = StoppedTranscript ample d lines held held' console
 
 -- Each place has its source again. `lines` are each operator's, which are numbered from 1; past them there are none, and no fault is told.
 -- Where memory was ample no attempt failed.

@@ -25,7 +25,7 @@ use Rattle.lx_crew.specs.declared.entry.Sent.TheVariants.{Line, LongLine, End, R
 use Rattle.lx_crew.specs.declared.rule.View.{View}
 use Rattle.lx_crew.specs.Entries.{text_in, of_place, is_last, has_last}
 use Rattle.lx_crew.specs.Rule.{engine_view, Takes}
-use Rattle.lx_crew.specs.Transcripts.{CrewAllowsBy}
+use Rattle.lx_crew.specs.Transcripts.{AppendsAtLeast, CrewAllowsBy, HasStopped, all_but_last}
 use Rattle.std.specs.Prelude.{slice_get}
 
 -- Stands for the text of any line of more than 4,096 bytes: each is bad.
@@ -47,8 +47,7 @@ entries_of place number InputTooLong = []
 abbrev pub said : List Message → List CrewEntry
 said entries = flat_map (λ (e : Message). entries_of e.place e.number e.sent) entries
 
--- The name of a line was written and the line done and answered, or a prefix of the name was written. Where the heap refused nothing no
--- attempt failed.
+-- The name of a line was written, and the line done and answered. Where the heap refused nothing no attempt failed.
 pub record NamedAnswer {K : Type 0} (refusals refusals' : ℕ) (told : ToldBySink K) (sink sink' : K) (result : Result Bool SinkFault)
     (s : Session DeskState) (name : List ℕ) (meaning : Option Meant) (console : Kept) (tally : Tally) : Type 0 where
   pub between : K
@@ -56,10 +55,11 @@ pub record NamedAnswer {K : Type 0} (refusals refusals' : ℕ) (told : ToldBySin
   pub answer : SparedAnswer (IsAmple true refusals refusals') true (λ commands. Unit {0}) told between sink' result (with_text s name) meaning
       console tally
 
+-- or a prefix of the name was written, and the line isn't done
 abbrev pub AnswersNamed : {K : Type 0} → (refusals refusals' : ℕ) → ToldBySink K → (sink sink' : K) → Result Bool SinkFault
     → Session DeskState → List ℕ → Option Meant → Kept → Tally → Type 0
 AnswersNamed refusals refusals' told sink sink' result s name meaning console tally =
-    (IsErr result × AppendsFront (told.holds sink) (told.holds sink') name)
+    (IsErr result × AppendsFront (told.holds sink) (told.holds sink') name × StandsFor s.state.desk console)
     ⊎ NamedAnswer refusals refusals' told sink sink' result s name meaning console tally
 
 -- The entries are done from a desk on, of each is told which attempt failed, if one did, and the session has come so far.
@@ -79,19 +79,22 @@ pub record AnsweredAll (ample : Bool) (d : Desk) (popped : List Message) (held h
   pub counts : now.counts ≡ counts_in tally
   pub stands : StandsFor now.state.desk console
 
--- A prefix of the transcript of the first of it was written.
-pub record AnsweredPart (ample : Bool) (d : Desk) (popped : List Message) (held held' : Option (List ℕ)) : Type 0 where
+-- The first of what was popped is answered, up to a fault of the output: a prefix of its transcript was written, and of all of it but the
+-- last it was written whole. No line of the rest is done.
+pub record AnsweredPart (ample : Bool) (d : Desk) (popped : List Message) (held held' : Option (List ℕ)) (console : Kept) : Type 0 where
   pub first : List Message
   pub rest : List Message
   pub are : popped ≡ first ++ rest
   pub failures : List (Option ℕ)
   pub allows : CrewAllowsBy ample d (said first) failures
   pub text : AppendsFront held held' (crew_text d (said first) failures)
+  pub earlier : AppendsAtLeast held held' (crew_text d (all_but_last (said first)) failures)
+  pub stopped : HasStopped d (said first) failures held held' console
 
 -- by the fault of the output
 abbrev pub HasAnswered : (ample : Bool) → Desk → List Message → (held held' : Option (List ℕ)) → Kept → Tally → Option SinkFault → Type 0
 HasAnswered ample d popped held held' console tally None = AnsweredAll ample d popped held held' console tally
-HasAnswered ample d popped held held' console tally (Some fault) = AnsweredPart ample d popped held held'
+HasAnswered ample d popped held held' console tally (Some fault) = AnsweredPart ample d popped held held' console
 
 -- Neither count of the output has fallen, and a fault that is new comes only where its own count rose. Where there is none now, there was
 -- none before, and both counts stand as they were.

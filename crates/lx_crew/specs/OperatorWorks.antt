@@ -20,9 +20,10 @@ pub record Hired {S : Type 0} (Its : Pass Message View → Type 0) (places : Lis
 abbrev pub HasSentNothing : {S : Type 0} → Operator S → Type 0
 HasSentNothing w = IsPassOf w.queue.now w.pass × (view w.pass ≡ operator_view w.place [])
 
--- what a work does: it pushed its lines
+-- what a work does: it stays at its place, and pushed its lines
 abbrev pub HasRunOperator : {S : Type 0} → ToldBySource S → Operator S → Operator S → Type 0
-HasRunOperator told x y = IsSamePass x.pass y.pass × HasSentLines told x.place x.source y.source (view y.pass) y.fault
+HasRunOperator told x y =
+    (y.place ≡ x.place) × (IsSamePass x.pass y.pass × HasSentLines told x.place x.source y.source (view y.pass) y.fault)
 
 -- what its pass pushed
 abbrev pub owned : {S : Type 0} → Operator S → ℕ × List Message

@@ -16,9 +16,9 @@ operator_view k pushed = record { pushes = true; pops = false; place = k; made =
 abbrev pub spent_view : View
 spent_view = record { pushes = false; pops = false; place = 0; made = 0; pushed = []; popped = []; kept = [] }
 
--- `seat k` is the pass of operator k, counted from 1; 0: it has none (it wasn't made yet, or was taken in).
--- `log` is all that was pushed, in order
--- the pass of an operator is that operator's, and has the entries that it pushed
+-- `seat k` tells the pass of the operator at place k: its number plus 1, and 0 where that operator has none, since it wasn't made yet or was
+-- taken in. Places and passes are counted from 0. `log` is all that was pushed, in order. The pass of an operator is that operator's, and
+-- has the entries that it pushed.
 abbrev pub FitsOperator : (ℕ → ℕ) → List Message → ℕ → View → Type 0
 FitsOperator seat log pass v = (seat v.place ≡ pass + 1) × (v.pushed ≡ of_place v.place log)
 

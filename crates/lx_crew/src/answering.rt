@@ -85,8 +85,7 @@ pub(crate) fn flush<K: Sink>(sink: &mut K, output: &mut Option<SinkFault>)
     ensures cause { OutputCause K.Sink sink.old sink.new output.old output.new }
     ensures handed_on { output.new ≡ None → K.back sink.new ≡ [] }
 {
-    if output.is_some() {
-        return;
+    if output.is_none() {
+        *output = sink.flush().err();
     }
-    *output = sink.flush().err();
 }

@@ -50,9 +50,10 @@ impl<H: Heap, K: Sink> Work for CrewEngine<'_, '_, '_, '_, '_, '_, H, K> {
         × ((y.heap.ghost_name ≡ x.heap.ghost_name)
         × ((y.console.ghost_name ≡ x.console.ghost_name)
         × ((y.sink.ghost_name ≡ x.sink.ghost_name)
+        × ((y.operators ≡ x.operators)
         × (IsSamePass x.pass.now y.pass.now
         × HasServedEntries (H.refusals x.heap.now) (H.refusals y.heap.now) K.Sink x.operators (view y.pass.now) x.sink.now y.sink.now
-        x.console.now y.console.now y.tally y.output)))) };
+        x.console.now y.console.now y.tally y.output))))) };
 
     fn run<R: Wait>(&mut self, rt: &R) {
         self.tally = Tally::new();

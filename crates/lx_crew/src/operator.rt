@@ -34,7 +34,8 @@ pub struct Operator<'q, 'e, S> {
 impl<S: Source> Work for Operator<'_, '_, S> {
     ghost ready = { λ x. IsPassOf x.queue.now x.pass × (view x.pass ≡ operator_view x.place []) };
 
-    ghost done = { λ x y. IsSamePass x.pass y.pass × HasSentLines S.Source x.place x.source y.source (view y.pass) y.fault };
+    ghost done = { λ x y. (y.place ≡ x.place)
+        × (IsSamePass x.pass y.pass × HasSentLines S.Source x.place x.source y.source (view y.pass) y.fault) };
 
     fn run<R: Wait>(&mut self, rt: &R) {
         self.fault = send_lines(

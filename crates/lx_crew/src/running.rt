@@ -34,7 +34,7 @@ use std::thread::Threads;
 /// What a crew came to.
 #[derive(Drop)]
 pub struct Crewed {
-    /// The replies, by kind.
+    /// The replies, by kind. Nothing is said of them where the output had a fault.
     pub tally: Tally,
     /// The fault of the output, if it had one.
     pub output: Option<SinkFault>,

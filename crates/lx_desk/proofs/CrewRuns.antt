@@ -5,12 +5,15 @@ use Rattle.lx_desk.proofs.Imports.{length-append, length-drop, take-append-drop,
 use Rattle.lx_desk.proofs.Imports.{AppendsFront, lines_of, Show, opened, Kept, ends_script, lines_wanted, Tally, OperatorFault, EachAt, Status, IsLowest}
 use Rattle.lx_desk.proofs.Imports.{WritesTranscript, WritesLines, Serves, WritesFirstLines, KeepsPlaces, OperatorFailed, TellsOperators, TellsCrew, Finishes}
 use Rattle.lx_desk.proofs.Imports.{Bool, HasWanted, WantsCrew, WantsMemory, ToldBySink, ToldBySource}
+use Rattle.std.specs.Io.KnownBytes.{Appends}
+use Rattle.std.proofs.KnownBytes.{Appends-nil}
 use Rattle.lx_io.specs.declared.sink.SinkFault.TheVariants as sinks
-use Rattle.lx_spec.specs.CrewText.{lines_up_to_quit, numbered_from, crew_text}
+use Rattle.lx_spec.specs.CrewText.{CrewEntry, lines_up_to_quit, numbered_from, crew_text}
 use Rattle.lx_crew.specs.declared.fault.OperatorFault.TheVariants as ends
 use Rattle.lx_crew.specs.Scripts.{AreLines, CutLines, ScriptHasEnded}
+use Rattle.lx_crew.proofs.LastEntries.{at_least_first, names_written}
 use Rattle.lx_crew.specs.CrewOutcome.{ScriptIsBack, HasWrittenTranscript, HasCrewed}
-use Rattle.lx_crew.specs.Transcripts.{WholeTranscript, TranscriptPrefix}
+use Rattle.lx_crew.specs.Transcripts.{AppendsAtLeast, WholeTranscript, TranscriptPrefix, all_but_last}
 use Rattle.lx_crew.specs.EngineAnswers.{OutputCause}
 use Rattle.lx_desk.specs.declared.desk.Status.TheVariants as status
 use Rattle.lx_desk.proofs.Inputs.{whole_front, front_nothing}
@@ -86,9 +89,9 @@ written_by ample show lines held held' console tally None told status.ShowRefuse
 written_by ample show lines held held' console tally None told status.Usage w tells = absurd tells
 written_by ample show lines held held' console tally None told status.Live w tells = absurd tells
 written_by ample show lines held held' console tally (Some sinks.Failed) told s w tells =
-    subst (λ (t : Status). WritesLines ample t show lines told held held') (sym tells) w
+    subst (λ (t : Status). WritesLines ample t show lines told held held') (sym tells) w.prefix
 written_by ample show lines held held' console tally (Some sinks.Memory) told s w tells =
-    subst (λ (t : Status). WritesLines ample t show lines told held held') (sym tells) w
+    subst (λ (t : Status). WritesLines ample t show lines told held held') (sym tells) w.prefix
 
 -- an operator whose read failed
 read_rose : {S : Type 0} (told_in : ToldBySource S) (places : List (Option S)) (told : List (Option OperatorFault))
@@ -201,6 +204,13 @@ ended_front told start source fault lines bytes ended known =
     lines_front fault bytes (told.left source) lines
     (subst (λ (o : Option (List ℕ)). IfSome o (λ b. AreLines fault b (told.left source) lines)) known ended.are)
 
+-- where all of it was written, that of all entries but the last was
+earlier_written : (show : Show) (entries : List CrewEntry) (failures : List (Option ℕ)) (held held' : Option (List ℕ))
+    → Appends held held' (crew_text (opened show) entries failures)
+    → AppendsAtLeast held held' (crew_text (opened show) (all_but_last entries) failures)
+earlier_written show entries failures held held' whole =
+    at_least_first held held' _ _ (names_written (opened show) entries failures held held' whole)
+
 -- However a crew ended, it wrote a prefix of the text of first lines.
 module _ {S : Type 0} (told : ToldBySource S) (show : Show) (count : ℕ) (operators operators' : List (Option S))
     (held held' : Option (List ℕ)) where
@@ -217,6 +227,7 @@ module _ {S : Type 0} (told : ToldBySource S) (show : Show) (count : ℕ) (opera
     failures = w.failures;
     allows = w.allows;
     text = whole_front held held' (crew_text (opened show) w.entries w.failures) w.text;
+    earlier = earlier_written show w.entries w.failures held held' w.text;
   }
 
   some_front : (s : Status) → (h : Serves false told show count operators operators' held held' s)
@@ -237,6 +248,7 @@ module _ {S : Type 0} (told : ToldBySource S) (show : Show) (count : ℕ) (opera
     failures = w.failures;
     allows = w.allows;
     text = w.text;
+    earlier = w.earlier;
   }
 
   pub served_front : (s : Status) → Serves false told show count operators operators' held held' s
@@ -262,6 +274,7 @@ no_lines told show count operators held held' kept = record {
   allows = tt;
   text = subst (λ (v : Option (List ℕ)). AppendsFront held v (crew_text (opened show) [] [])) (sym kept)
       (front_nothing held (crew_text (opened show) [] []));
+  earlier = earlier_written show [] [] held held' (subst (λ (v : Option (List ℕ)). Appends held v []) (sym kept) (Appends-nil held));
 }
 
 -- What a crew's status says of the output.

@@ -23,7 +23,7 @@ use Rattle.lx_crew.specs.declared.fault.OperatorFault.{OperatorFault}
 use Rattle.lx_crew.specs.declared.fault.OperatorFault.TheVariants as ends
 use Rattle.lx_base.specs.Places.{EachAt}
 use Rattle.lx_crew.specs.CrewOutcome.{ScriptIsBack}
-use Rattle.lx_crew.specs.Transcripts.{CrewAllowsBy, TranscriptPrefix}
+use Rattle.lx_crew.specs.Transcripts.{AppendsAtLeast, CrewAllowsBy, TranscriptPrefix, all_but_last}
 use Rattle.lx_desk.specs.declared.desk.Status.{Status}
 use Rattle.lx_desk.specs.declared.desk.Status.TheVariants as status
 use Rattle.lx_desk.specs.Endings.{HasEnded}
@@ -48,7 +48,8 @@ pub record WritesTranscript (ample : Bool) (show : Show) (lines : ℕ → List (
   pub text : Appends held held' (crew_text (opened show) entries failures)
 
 -- What was written of these lines, by the status: the whole text, also after a fault of an operator, of which the lowest operator's is
--- told. After a fault of the output it is a prefix of the text of first lines of each operator.
+-- told. After a fault of the output it is a prefix of the text of first lines of each operator, and that of all of them but the last is
+-- written whole.
 abbrev pub WritesLines : (ample : Bool) → Status → Show → (ℕ → List (List ℕ)) → List (Option OperatorFault) → (held held' : Known) → Type 0
 WritesLines ample status.Ok show lines told held held' = WritesTranscript ample show lines held held' × NoneTold told
 WritesLines ample status.ReadFault show lines told held held' = WritesTranscript ample show lines held held' × IsLowest told ends.ReadFault
@@ -99,7 +100,7 @@ HasCrewEnded ample told count form bytes left operators operators' held held' s 
     ⊎ ServesShow ample told count form bytes operators operators' held held' s
 
 -- A prefix of the text of a crew was written: of each operator in use first lines up to `quit` or the end, numbered from 1, and of
--- no other any. Attempts failed only at edits.
+-- no other any. The text of all of them but the last was written whole. Attempts failed only at edits.
 pub record WritesFirstLines {S : Type 0} (told : ToldBySource S) (show : Show) (count : ℕ) (operators : List (Option S)) (held held' : Known)
     : Type 0 where
   pub entries : List CrewEntry
@@ -111,6 +112,7 @@ pub record WritesFirstLines {S : Type 0} (told : ToldBySource S) (show : Show) (
   pub failures : List (Option ℕ)
   pub allows : CrewAllows (opened show) entries failures
   pub text : AppendsFront held held' (crew_text (opened show) entries failures)
+  pub earlier : AppendsAtLeast held held' (crew_text (opened show) (all_but_last entries) failures)
 
 -- the same over the show that was read, or a prefix of the line of one that is refused
 abbrev pub WritesCrewFront : {S : Type 0} → ToldBySource S → ℕ → List (Option S) → (held held' : Known) → Result Reading TextFault → Type 0
