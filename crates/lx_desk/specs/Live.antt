@@ -43,7 +43,7 @@ live_after show script failures lines = session_after (desk_answering false) (be
 abbrev pub LiveAllows : (ample : Bool) → Show → List (List ℕ) → List (Option ℕ) → (accepted : List Command) → Type 0
 LiveAllows ample show script failures accepted = Allows (engine_answering ample accepted) (begun (opened show)) script failures
 
--- an outlet has the lines of versions of rising lists of commands, the last of which begins with these
+-- an outlet has the lines of versions of rising prefixes of these commands, the last of which is all of them
 pub record HasVersions {K : Type 0} (told : ToldBySink K) (show : Show) (outlets' : List (Option K)) (place : ℕ) (start : K)
     (list : List Command) : Type 0 where
   pub new : K
@@ -55,7 +55,7 @@ HaveVersions {K} told show universes outlets outlets' list =
     (place : ℕ) (start : K) → place < universes → slice_get outlets place ≡ Some (Some start)
     → HasVersions told show outlets' place start list
 
--- A script was answered to its end, and each outlet's last line is that of a version after all accepted commands. Here and below no attempt
+-- A script was answered to its end, and each outlet's last line is that of the version after all accepted commands. Here and below no attempt
 -- failed where memory was ample, by `LiveAllows`.
 pub record PlaysScript {K : Type 0} (ample : Bool) (told : ToldBySink K) (show : Show) (universes : ℕ) (script : List (List ℕ))
     (held held' : Known) (outlets outlets' : List (Option K)) : Type 0 where
@@ -64,8 +64,8 @@ pub record PlaysScript {K : Type 0} (ample : Bool) (told : ToldBySink K) (show :
   pub text : Appends held held' (live_session show script failures).text
   pub versions : HaveVersions told show universes outlets outlets' (live_session show script failures).state.accepted
 
--- Each outlet in use got what it was to get of these published commands: the lines of versions of rising lists, the last of which begins
--- with them. With a fault of its own it got such lines and a part of one more. The other outlets are as they were.
+-- Each outlet in use got what it was to get of these published commands: the lines of versions of rising prefixes of them, the last of which
+-- is all of them. With a fault of its own it got such lines and a part of one more. The other outlets are as they were.
 pub record HaveGot {K : Type 0} (told : ToldBySink K) (show : Show) (universes : ℕ)
     (outlets outlets' : List (Option K)) (published : List Command) : Type 0 where
   pub results : List (Option SinkFault)
@@ -118,7 +118,7 @@ HasPlayedLive ample status.Memory told show universes before bytes left held hel
     ⊎ PlaysInFront ample told show universes (lines_of bytes) held held' outlets outlets'
 HasPlayedLive ample other told show universes before bytes left held held' outlets outlets' = ⊥
 
--- The show was read, the replies to the whole script were written, and each outlet's last line is that of a version after all commands
+-- The show was read, the replies to the whole script were written, and each outlet's last line is that of the version after all commands
 -- that were accepted.
 pub record PlaysWhole {K : Type 0} (ample : Bool) (told : ToldBySink K) (universes : ℕ) (form : Form) (bytes : List ℕ)
     (held held' : Known) (outlets outlets' : List (Option K)) : Type 0 where

@@ -9,6 +9,7 @@ ghost use Rattle.lx_gate.specs.Readings.{Told, newest, HasReadOn, HasMissed, Has
 
 use crate::{Note, Port, Stamp};
 use std::marker::Model;
+use std::sync::Wait;
 
 /// One universe's output. It keeps the version that it took or learnt last. Contracts see its universe and what its port was told.
 #[derive(Drop)]
@@ -88,12 +89,45 @@ impl<P: Port> Tap<P> {
                 self.stamp = stamp;
                 stamp
             }
-            None => {
-                *out = self.slots;
-                self.stamp
-            }
+            None => self.kept(out),
         }
     }
+
+    /// Learns the last note of its gate, behind which nothing was published. What it keeps is then the version of that note's list.
+    ///
+    /// A rule of the logbook can't say that nothing was published behind the note. So this waits for ever where the tap has a newer
+    /// version.
+    pub fn learn_last<R: Wait>(&mut self, rt: &R, note: Note)
+        requires gate { IsNoteOf P.show P.book note }
+        ensures all { newest self.new.told ≡ commands_of_note note }
+        ensures learnt { HasLearnt self.old.told self.new.told (commands_of_note note) }
+        ensures chained { IsChained self.new.told.seen self.new.told.learnt }
+        ensures universe { self.new.universe ≡ self.old.universe }
+    {
+        let last = note.count();
+        self.learn(note);
+        wait_while_newer(rt, self.stamp.count, last);
+    }
+
+    /// Gives the slots of the universe in the version that it keeps, and which it is. It asks nobody.
+    pub fn kept(&self, out: &mut [u8; 512]) -> Stamp
+        ensures { IsFrame P.show (newest self.now.told) self.now.universe out.new result }
+    {
+        *out = self.slots;
+        self.stamp
+    }
+}
+
+/// Returns where no more commands led to a version than to the last one, and else never.
+fn wait_while_newer<R: Wait>(rt: &R, count: u64, last: u64)
+    ensures { count ≤ last }
+{
+    for _ in rt.forever() {
+        if count <= last {
+            return;
+        }
+    }
+    unreachable!()
 }
 
 /// The slots and the stamp of a note, where its list is longer than that of the slots and the stamp that are kept.

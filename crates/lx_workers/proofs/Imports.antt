@@ -24,7 +24,7 @@ pub use Rattle.lx_spec.specs.declared.Command.{Command}
 pub use Rattle.lx_workers.specs.Engines.{accepted_of, engine_answering, HasAccepted, HasRun, leaves_room, SendsAll}
 pub use Rattle.lx_workers.specs.Lines.{HasFault, HasWritten, HasWrittenPart, newest_count, stamped_line}
 pub use Rattle.lx_workers.specs.Places.{IsFull, IsGiven, IsTaken, OutletIsBack}
-pub use Rattle.lx_workers.specs.Works.{Delivered, HasAll, HasLooked, HasOutletPart, HasServed, HasStepped, HasTakenTimes, RoseOrSame}
+pub use Rattle.lx_workers.specs.Works.{Delivered, HasAll, HasLooked, HasPutNewest, HasServed, HasStepped, HasTakenTimes, RoseOrSame}
 pub use Rattle.lx_workers.specs.declared.playing.TheConstants.{OUTLETS}
 pub use Rattle.lx_workers.specs.declared.worker.Served.{Served}
 pub use Rattle.std.proofs.lemmas.Option.{same_Some, slice_get_within}

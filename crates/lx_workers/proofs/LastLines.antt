@@ -1,38 +1,23 @@
--- The last take of a worker, after its note.
+-- The last line of a worker, after the last note.
 use Rattle.lx_workers.proofs.Imports.{◌≡◌, ℕ, List, [], ◌∷◌, length, Option, Some, true, inl, sym, ap, ◌∙◌, subst, arith, is_some, Appends}
-use Rattle.lx_workers.proofs.Imports.{IsPrefix, SinkFault, Command, Show, IsChained, Told, Tapped, newest, HasLearnt, prefix_self, prefix_trans, prefix_whole}
-use Rattle.lx_workers.proofs.Imports.{Served, outlet_text, Falling, newest_count, HasWritten, HasWrittenPart, HasServed, HasStepped, HasAll, HasOutletPart}
+use Rattle.lx_workers.proofs.Imports.{IsPrefix, SinkFault, Command, Show, IsChained, Told, Tapped, newest, HasLearnt, prefix_trans, prefix_whole}
+use Rattle.lx_workers.proofs.Imports.{Served, outlet_text, Falling, newest_count, HasWritten, HasWrittenPart, HasServed, HasPutNewest, HasAll}
 use Rattle.lx_workers.proofs.Imports.{Delivered, ToldBySink}
 use Rattle.lx_workers.proofs.WrittenLines.{goes_on, part_on}
 use Rattle.lx_workers.proofs.TapSteps.{learnt_begins, count_on}
 
-all_at : (show : Show) (u : ℕ) (before after : Option (List ℕ)) (list top : List Command) (lists : List (List Command))
-    → Appends before after (outlet_text show u lists) → Falling top lists
-    → Some (length top) ≡ newest_count lists → IsPrefix list top → HasAll show u before after list
-all_at show u before after list top [] text chain e p = cc
-all_at show u before after list top (newest ∷ earlier) text chain e p =
+all_at : (show : Show) (u : ℕ) (before after : Option (List ℕ)) (top : List Command) (lists : List (List Command))
+    → Appends before after (outlet_text show u lists) → Falling top lists → Some (length top) ≡ newest_count lists → HasAll show u before after top
+all_at show u before after top [] text chain e = cc
+all_at show u before after top (newest ∷ earlier) text chain e =
     let same_length : length top ≡ length newest = cc in
     let same : newest ≡ top = prefix_whole newest top chain.0 (omega (arith, same_length)) in
-    record {
-      top = newest;
-      earlier = earlier;
-      begins = subst (λ (w : List Command). IsPrefix list w) (sym same) p;
-      chain = chain.1;
-      text =
-          text;
-    }
+    subst (λ (w : List Command). HasAll show u before after w) same (record { earlier = earlier; chain = chain.1; text = text })
 
 -- where the last line is that of the newest list, the outlet has all
-pub has_all : (show : Show) (u : ℕ) (before after : Option (List ℕ)) (list top : List Command) (taken : ℕ) (last : Option ℕ)
-    → HasWritten show u before after top taken last
-    → last ≡ Some (length top) → IsPrefix list top → HasAll show u before after list
-has_all show u before after list top taken last h e p = all_at show u before after list top h.lists h.text h.chain (sym e ∙ h.last_is) p
-
-pub has_part : {K : Type 0} (told : ToldBySink K) (show : Show) (u : ℕ) (from sink : K)
-    (list top top' : List Command) (fault : SinkFault) → HasWrittenPart told show u from sink top fault
-    → IsPrefix top top' → IsPrefix list top' → HasOutletPart told show u from sink list fault
-has_part told show u from sink list top top' fault h q p =
-    record { top = top'; begins = p; part = part_on told show u from sink top top' fault q h }
+pub has_all : (show : Show) (u : ℕ) (before after : Option (List ℕ)) (top : List Command) (taken : ℕ) (last : Option ℕ)
+    → HasWritten show u before after top taken last → last ≡ Some (length top) → HasAll show u before after top
+has_all show u before after top taken last h e = all_at show u before after top h.lists h.text h.chain (sym e ∙ h.last_is)
 
 -- a note was learnt
 pub served_learnt : {K : Type 0} (told : ToldBySink K) (show : Show) (start tap tap' : Tapped) (from sink : K) (served : Served) (list : List Command)
@@ -60,29 +45,26 @@ served_learnt told show start tap tap' from sink served list h l chained u =
 
 -- the outlet had failed before
 pub delivered_part : {K : Type 0} (told : ToldBySink K) (show : Show) (start tap : Tapped) (from sink : K) (served : Served) (list : List Command)
-    → HasServed told show start tap from sink served → is_some served.fault ≡ true → IsPrefix list (newest tap.told)
+    → HasServed told show start tap from sink served → is_some served.fault ≡ true → newest tap.told ≡ list
     → Delivered told show start.universe from sink list served.fault
-delivered_part told show start tap from sink served list h some p = record {
+delivered_part told show start tap from sink served list h some is = record {
   whole = λ e. cc;
-  part = λ f e. has_part told show start.universe from sink list (newest tap.told) (newest tap.told) f (h.part f e)
-      (prefix_self (newest tap.told)) p;
+  part = λ f e. subst (λ (l : List Command). HasWrittenPart told show start.universe from sink l f) is (h.part f e);
   cause = h.cause;
   handed_on = λ e. cc;
 }
 
--- it hadn't, and the tap took once more
-pub delivered_step : {K : Type 0} (told : ToldBySink K) (show : Show) (start tap tap' : Tapped)
-    (from sink sink' : K) (served served' : Served) (list : List Command)
-    → HasServed told show start tap from sink served → HasStepped told show tap tap' sink sink' served served' → IsPrefix list (newest tap.told)
-    → Delivered told show start.universe from sink' list served'.fault
-delivered_step told show start tap tap' from sink sink' served served' list h s p =
-    let after : HasServed told show start tap' from sink' served' = s.serves start from h in
-    let q : IsPrefix list (newest tap'.told) = prefix_trans list (newest tap.told) (newest tap'.told) p s.goes_on in
+-- it hadn't, and has the line of what is published
+pub delivered_newest : {K : Type 0} (told : ToldBySink K) (show : Show) (start tap : Tapped) (from sink sink' : K) (served served' : Served)
+    (list : List Command) → HasServed told show start tap from sink served → HasPutNewest told show tap sink sink' served served'
+    → newest tap.told ≡ list → Delivered told show start.universe from sink' list served'.fault
+delivered_newest told show start tap from sink sink' served served' list h put is =
+    let after : HasServed told show start tap from sink' served' = put.serves start from h in
     record {
-      whole = λ e. has_all show start.universe (told.holds from) (told.holds sink') list (newest tap'.told) served'.taken served'.last
-          (after.written e) (s.last start from h e) q;
-      part = λ f e. has_part told show start.universe from sink' list (newest tap'.told) (newest tap'.told) f (after.part f e)
-          (prefix_self (newest tap'.told)) q;
+      whole = λ e. subst (λ (l : List Command). HasAll show start.universe (told.holds from) (told.holds sink') l) is
+          (has_all show start.universe (told.holds from) (told.holds sink') (newest tap.told) served'.taken served'.last (after.written e)
+          (put.last start from h e));
+      part = λ f e. subst (λ (l : List Command). HasWrittenPart told show start.universe from sink' l f) is (after.part f e);
       cause = after.cause;
-      handed_on = λ e. after.handed_on (length (newest tap'.told)) e (s.last start from h e);
+      handed_on = λ e. after.handed_on (length (newest tap.told)) e (put.last start from h e);
     }

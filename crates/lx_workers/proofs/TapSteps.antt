@@ -61,8 +61,3 @@ learnt_begins before now list h chained =
     let seen : now.seen ≡ before.seen = ap (λ (t : Told). t.seen) h.rest in
     longest_begins before.seen before.learnt (newest now) (rw (← seen) chained.first)
     (prefix_trans before.learnt now.learnt (newest now) h.earlier chained.second)
-
-pub note_begins : (before now : Told) (list top : List Command) → HasLearnt before now list → IsChained now.seen now.learnt
-    → IsPrefix (newest now) top → IsPrefix list top
-note_begins before now list top h chained q =
-    prefix_trans list now.learnt top h.note (prefix_trans now.learnt (newest now) top chained.second q)

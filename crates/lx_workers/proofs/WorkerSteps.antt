@@ -2,9 +2,9 @@
 use Rattle.lx_workers.proofs.Imports.{◌≡◌, ℕ, ◌<◌, ◌≤◌, ◌+◌, ◌-◌, ◌^◌, min, List, [], length, Option, Some, None, Err, IfSome}
 use Rattle.lx_workers.proofs.Imports.{IsSomeAnd, inl, refl, sym, ap, ◌∙◌, subst, arith, IsPrefix, Appends, SinkFault, one_more, HasSinkCause, Puts}
 use Rattle.lx_workers.proofs.Imports.{same_Some, Show, Stamp, IsFrame, Tapped, newest, prefix_self, prefix_trans, Served, stamped_line, HasFault}
-use Rattle.lx_workers.proofs.Imports.{HasWrittenPart, HasServed, HasStepped, ToldBySink}
+use Rattle.lx_workers.proofs.Imports.{HasWrittenPart, HasServed, HasStepped, HasPutNewest, HasTakenTimes, ToldBySink}
 use Rattle.lx_io.specs.declared.sink.SinkFault.TheVariants.{Failed, Memory}
-use Rattle.lx_workers.proofs.WrittenLines.{goes_on, adds_line, adds_part, last_stays, none_written}
+use Rattle.lx_workers.proofs.WrittenLines.{goes_on, part_on, adds_line, adds_part, last_stays, none_written}
 use Rattle.lx_workers.proofs.TapSteps.{HasTaken, count_on, takes_on}
 
 -- no fault behind none
@@ -59,96 +59,100 @@ served_none told show tap sink = record {
   misses = inl refl;
 }
 
--- nothing newer was taken
-pub stepped_none : {K : Type 0} (told : ToldBySink K) (show : Show) (tap tap' : Tapped) (sink : K) (served : Served) (count : ℕ)
-    → served.fault ≡ None → tap'.universe ≡ tap.universe → IsPrefix (newest tap.told) (newest tap'.told) → HasTaken tap.told tap'.told
-    → count ≡ length (newest tap'.told) → IsSomeAnd served.last (λ n. count ≤ n)
-    → HasStepped told show tap tap' sink sink served (record served { takes = one_more served.takes })
-stepped_none told show tap tap' sink served count none u p t is stale = record {
-  serves = λ start from h. record {
-    written = λ e. goes_on show start.universe (told.holds from) (told.holds sink) (newest tap.told) (newest tap'.told) served.taken served.last p
-        (h.written e);
-    part = λ f e. cc;
-    cause = h.cause;
-    handed_on = h.handed_on;
-    goes_on = prefix_trans (newest start.told) (newest tap.told) (newest tap'.told) h.goes_on p;
-    seen = prefix_trans start.told.seen tap.told.seen tap'.told.seen h.seen t.seen;
-    takes = takes_on start.told tap.told tap'.told served.takes h.takes t;
-    same_universe = u ∙ h.same_universe;
-    reads = count_on start.told.reads tap.told.reads tap'.told.reads h.reads t.reads;
-    misses = count_on start.told.misses tap.told.misses tap'.told.misses h.misses t.misses;
-  };
+-- a take, before its line
+served_taken : {K : Type 0} (told : ToldBySink K) (show : Show) (start tap tap' : Tapped) (from sink : K) (served : Served) (takes : ℕ)
+    → takes ≡ one_more served.takes → tap'.universe ≡ tap.universe → IsPrefix (newest tap.told) (newest tap'.told) → HasTaken tap.told tap'.told
+    → HasServed told show start tap from sink served → HasServed told show start tap' from sink (record served { takes = takes })
+served_taken told show start tap tap' from sink served takes is u p t h = record {
+  written = λ e. goes_on show start.universe (told.holds from) (told.holds sink) (newest tap.told) (newest tap'.told) served.taken served.last p
+      (h.written e);
+  part = λ f e. part_on told show start.universe from sink (newest tap.told) (newest tap'.told) f p (h.part f e);
+  cause = h.cause;
+  handed_on = h.handed_on;
+  goes_on = prefix_trans (newest start.told) (newest tap.told) (newest tap'.told) h.goes_on p;
+  seen = prefix_trans start.told.seen tap.told.seen tap'.told.seen h.seen t.seen;
+  takes = subst (λ (n : ℕ). HasTakenTimes start.told tap'.told n) (sym is) (takes_on start.told tap.told tap'.told served.takes h.takes t);
+  same_universe = u ∙ h.same_universe;
+  reads = count_on start.told.reads tap.told.reads tap'.told.reads h.reads t.reads;
+  misses = count_on start.told.misses tap.told.misses tap'.told.misses h.misses t.misses;
+}
+
+-- a take, and the line of what was taken
+pub stepped : {K : Type 0} (told : ToldBySink K) (show : Show) (tap tap' : Tapped) (sink sink' : K) (served served' : Served) (takes : ℕ)
+    → takes ≡ one_more served.takes → tap'.universe ≡ tap.universe → IsPrefix (newest tap.told) (newest tap'.told) → HasTaken tap.told tap'.told
+    → HasPutNewest told show tap' sink sink' (record served { takes = takes }) served' → HasStepped told show tap tap' sink sink' served served'
+stepped told show tap tap' sink sink' served served' takes is u p t put = record {
+  serves = λ start from h. put.serves start from (served_taken told show start tap tap' from sink served takes is u p t h);
   goes_on = p;
   seen = t.seen;
   same_learnt = t.learnt;
-  takes = refl;
-  last = λ start from h e. last_stays show start.universe (told.holds from) (told.holds sink) (newest tap.told) (newest tap'.told) served.taken
-      served.last count p is stale (h.written none);
+  takes = put.takes ∙ is;
+  last = λ start from h e. put.last start from (served_taken told show start tap tap' from sink served takes is u p t h) e;
 }
 
--- a newer version was taken, and its line was written
-pub stepped_line : {K : Type 0} (told : ToldBySink K) (show : Show) (tap tap' : Tapped) (sink sink' : K)
-    (served : Served) (slots : List ℕ) (stamp : Stamp)
-    → served.fault ≡ None → tap'.universe ≡ tap.universe → IsPrefix (newest tap.told) (newest tap'.told) → HasTaken tap.told tap'.told
-    → IsFrame show (newest tap'.told) tap.universe slots stamp → IfSome served.last (λ n. n < stamp.count)
+-- the tap keeps nothing newer than the last line
+pub put_none : {K : Type 0} (told : ToldBySink K) (show : Show) (tap : Tapped) (sink : K) (served : Served) (count : ℕ)
+    → served.fault ≡ None → count ≡ length (newest tap.told) → IsSomeAnd served.last (λ n. count ≤ n)
+    → HasPutNewest told show tap sink sink served served
+put_none told show tap sink served count none is stale = record {
+  serves = λ start from h. h;
+  takes = refl;
+  last = λ start from h e. last_stays show start.universe (told.holds from) (told.holds sink) (newest tap.told) (newest tap.told) served.taken
+      served.last count (prefix_self (newest tap.told)) is stale (h.written none);
+}
+
+-- it does, and its line was written
+pub put_whole : {K : Type 0} (told : ToldBySink K) (show : Show) (tap : Tapped) (sink sink' : K) (served : Served) (slots : List ℕ) (stamp : Stamp)
+    → served.fault ≡ None → IsFrame show (newest tap.told) tap.universe slots stamp → IfSome served.last (λ n. n < stamp.count)
     → Appends (told.holds sink) (told.holds sink') (stamped_line tap.universe slots stamp) → told.faults sink' ≡ told.faults sink
-    → told.wants sink' ≡ told.wants sink
-    → told.back sink' ≡ [] → HasStepped told show tap tap' sink sink' served
-    (record served { takes = one_more served.takes; taken = min (served.taken + 1) (2 ^ 64 - 1); last = Some stamp.count })
-stepped_line told show tap tap' sink sink' served slots stamp none u p t frame fresh text kept wants_kept handed_on = record {
+    → told.wants sink' ≡ told.wants sink → told.back sink' ≡ []
+    → HasPutNewest told show tap sink sink' served (record served { taken = min (served.taken + 1) (2 ^ 64 - 1); last = Some stamp.count })
+put_whole told show tap sink sink' served slots stamp none frame fresh text kept wants_kept handed_on = record {
   serves = λ start from h. record {
-    written = λ e. adds_line show start.universe (told.holds from) (told.holds sink) (told.holds sink') (newest tap.told) (newest tap'.told) served.taken
-        served.last slots stamp p
-        (subst (λ (n : ℕ). IsFrame show (newest tap'.told) n slots stamp) h.same_universe frame)
+    written = λ e. adds_line show start.universe (told.holds from) (told.holds sink) (told.holds sink') (newest tap.told) (newest tap.told) served.taken
+        served.last slots stamp (prefix_self (newest tap.told))
+        (subst (λ (n : ℕ). IsFrame show (newest tap.told) n slots stamp) h.same_universe frame)
         (subst (λ (n : ℕ). Appends (told.holds sink) (told.holds sink') (stamped_line n slots stamp)) h.same_universe text) fresh (h.written none);
     part = λ f e. cc;
     cause = subst (λ (o : Option SinkFault). HasFault told from sink' o) (sym none)
         (fault_none told from sink sink' (subst (λ (o : Option SinkFault). HasFault told from sink o) none h.cause) kept
         wants_kept);
     handed_on = λ count e last. handed_on;
-    goes_on = prefix_trans (newest start.told) (newest tap.told) (newest tap'.told) h.goes_on p;
-    seen = prefix_trans start.told.seen tap.told.seen tap'.told.seen h.seen t.seen;
-    takes = takes_on start.told tap.told tap'.told served.takes h.takes t;
-    same_universe = u ∙ h.same_universe;
-    reads = count_on start.told.reads tap.told.reads tap'.told.reads h.reads t.reads;
-    misses = count_on start.told.misses tap.told.misses tap'.told.misses h.misses t.misses;
+    goes_on = h.goes_on;
+    seen = h.seen;
+    takes = h.takes;
+    same_universe = h.same_universe;
+    reads = h.reads;
+    misses = h.misses;
   };
-  goes_on = p;
-  seen = t.seen;
-  same_learnt = t.learnt;
   takes = refl;
   last = λ start from h e. ap (λ (n : ℕ). Some n) frame.count_is;
 }
 
--- a newer version was taken, and the sink failed in its line
-pub stepped_fault : {K : Type 0} (told : ToldBySink K) (show : Show) (tap tap' : Tapped) (sink sink' : K)
-    (served : Served) (slots : List ℕ) (stamp : Stamp) (fault : SinkFault)
-    → served.fault ≡ None → tap'.universe ≡ tap.universe → IsPrefix (newest tap.told) (newest tap'.told) → HasTaken tap.told tap'.told
-    → IsFrame show (newest tap'.told) tap.universe slots stamp → IfSome served.last (λ n. n < stamp.count)
+-- it does, and the sink failed in its line
+pub put_part : {K : Type 0} (told : ToldBySink K) (show : Show) (tap : Tapped) (sink sink' : K) (served : Served) (slots : List ℕ) (stamp : Stamp)
+    (fault : SinkFault) → served.fault ≡ None → IsFrame show (newest tap.told) tap.universe slots stamp → IfSome served.last (λ n. n < stamp.count)
     → Puts {T = Unit {0}} told sink sink' (Err fault) (stamped_line tap.universe slots stamp)
-    → HasStepped told show tap tap' sink sink' served (record served { takes = one_more served.takes; fault = Some fault })
-stepped_fault told show tap tap' sink sink' served slots stamp fault none u p t frame fresh puts = record {
+    → HasPutNewest told show tap sink sink' served (record served { fault = Some fault })
+put_part told show tap sink sink' served slots stamp fault none frame fresh puts = record {
   serves = λ start from h. record {
     written = λ e. cc;
-    part = λ f e. subst (λ (g : SinkFault). HasWrittenPart told show start.universe from sink' (newest tap'.told) g) (same_Some fault f e)
-        (adds_part told show start.universe from sink sink' (newest tap.told) (newest tap'.told) served.taken served.last
-        slots stamp fault p
-        (subst (λ (n : ℕ). IsFrame show (newest tap'.told) n slots stamp) h.same_universe frame)
+    part = λ f e. subst (λ (g : SinkFault). HasWrittenPart told show start.universe from sink' (newest tap.told) g) (same_Some fault f e)
+        (adds_part told show start.universe from sink sink' (newest tap.told) (newest tap.told) served.taken served.last
+        slots stamp fault (prefix_self (newest tap.told))
+        (subst (λ (n : ℕ). IsFrame show (newest tap.told) n slots stamp) h.same_universe frame)
         (subst (λ (n : ℕ). Puts {T = Unit {0}} told sink sink' (Err fault) (stamped_line n slots stamp)) h.same_universe puts) fresh
         (h.written none));
     cause = fault_then told from sink sink' (Some fault) (subst (λ (o : Option SinkFault). HasFault told from sink o) none h.cause)
         (fault_is told sink sink' fault puts.cause);
     handed_on = λ count e last. cc;
-    goes_on = prefix_trans (newest start.told) (newest tap.told) (newest tap'.told) h.goes_on p;
-    seen = prefix_trans start.told.seen tap.told.seen tap'.told.seen h.seen t.seen;
-    takes = takes_on start.told tap.told tap'.told served.takes h.takes t;
-    same_universe = u ∙ h.same_universe;
-    reads = count_on start.told.reads tap.told.reads tap'.told.reads h.reads t.reads;
-    misses = count_on start.told.misses tap.told.misses tap'.told.misses h.misses t.misses;
+    goes_on = h.goes_on;
+    seen = h.seen;
+    takes = h.takes;
+    same_universe = h.same_universe;
+    reads = h.reads;
+    misses = h.misses;
   };
-  goes_on = p;
-  seen = t.seen;
-  same_learnt = t.learnt;
   takes = refl;
   last = λ start from h e. cc;
 }

@@ -45,29 +45,28 @@ pub record HasStepped {K : Type 0} (told : ToldBySink K) (show : Show) (tap tap'
   pub last : (start : Tapped) (from : K) → HasServed told show start tap from sink served → served'.fault ≡ None
       → served'.last ≡ Some (length (newest tap'.told))
 
+-- The line of what a tap keeps is the last one, unless the sink failed in it: what was served before is served so.
+pub record HasPutNewest {K : Type 0} (told : ToldBySink K) (show : Show) (tap : Tapped) (sink sink' : K) (served served' : Served) : Type 0 where
+  pub serves : (start : Tapped) (from : K) → HasServed told show start tap from sink served → HasServed told show start tap from sink' served'
+  pub takes : served'.takes ≡ served.takes
+  pub last : (start : Tapped) (from : K) → HasServed told show start tap from sink served → served'.fault ≡ None
+      → served'.last ≡ Some (length (newest tap.told))
+
 -- the tap's port had a reading or a miss
 abbrev pub HasLooked : Told → Told → Type 0
 HasLooked before now = Rose before.reads now.reads ⊎ Rose before.misses now.misses
 
--- an outlet has the lines of rising lists, of which the last begins with all that was published
+-- an outlet has the lines of rising prefixes of what was published, of which the last is all that was published
 pub record HasAll (show : Show) (universe : ℕ) (before after : Option (List ℕ)) (published : List Command) : Type 0 where
-  pub top : List Command
   pub earlier : List (List Command)
-  pub begins : IsPrefix published top
-  pub chain : Older top earlier
-  pub text : Appends before after (outlet_text show universe (top ∷ earlier))
+  pub chain : Older published earlier
+  pub text : Appends before after (outlet_text show universe (published ∷ earlier))
 
--- where it failed, such lines and a part of one more; they are of prefixes of a list that begins with what was published
-pub record HasOutletPart {K : Type 0} (told : ToldBySink K) (show : Show) (universe : ℕ)
-    (sink sink' : K) (published : List Command) (fault : SinkFault) : Type 0 where
-  pub top : List Command
-  pub begins : IsPrefix published top
-  pub part : HasWrittenPart told show universe sink sink' top fault
-
--- What an outlet got, and its fault. Without one it keeps nothing back.
+-- What an outlet got, and its fault. With one, lines of rising prefixes of what was published, and a part of one more. Without one it keeps
+-- nothing back.
 pub record Delivered {K : Type 0} (told : ToldBySink K) (show : Show) (universe : ℕ)
     (sink sink' : K) (published : List Command) (fault : Option SinkFault) : Type 0 where
   pub whole : fault ≡ None → HasAll show universe (told.holds sink) (told.holds sink') published
-  pub part : (f : SinkFault) → fault ≡ Some f → HasOutletPart told show universe sink sink' published f
+  pub part : (f : SinkFault) → fault ≡ Some f → HasWrittenPart told show universe sink sink' published f
   pub cause : HasFault told sink sink' fault
   pub handed_on : fault ≡ None → told.back sink' ≡ []

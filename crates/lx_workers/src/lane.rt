@@ -5,7 +5,7 @@ ghost use Rattle.lx_gate.specs.Notes.{IsNoteOf, commands_of_note};
 ghost use Rattle.lx_gate.specs.Readings.{Tapped};
 ghost use Rattle.lx_workers.specs.Works.{HasServed, Delivered};
 
-use crate::worker::step;
+use crate::worker::put_newest;
 use crate::{Served, Stop, serve};
 use lx_gate::{Note, Port, Tap};
 use lx_io::{Pace, Sink};
@@ -39,9 +39,9 @@ impl<P: Port, K: Sink, C: Pace> Work for Lane<'_, P, K, C> {
 }
 
 impl<P: Port, K: Sink, C: Pace> Lane<'_, P, K, C> {
-    /// Learns what is published at the end and takes once more, unless the sink had a fault. The last line is then that of a
-    /// list which begins with the note's, and the sink keeps nothing back.
-    pub fn finish(&mut self, note: Note)
+    /// Learns what is published at the end, and writes its line unless the outlet has it or its sink had a fault. All lines are then
+    /// of prefixes of the published list, the last of all of it, and the sink keeps nothing back.
+    pub fn finish<R: Wait>(&mut self, rt: &R, note: Note)
         requires gate { IsNoteOf P.show P.book note }
         ensures delivered { (start : Tapped) (from : K)
             → HasServed K.Sink P.show start self.old.tap from self.old.sink self.old.served
@@ -49,10 +49,19 @@ impl<P: Port, K: Sink, C: Pace> Lane<'_, P, K, C> {
         ensures seen { IsPrefix self.old.tap.told.seen self.new.tap.told.seen }
         ensures unwritten { IsSome self.old.served.fault → self.new.sink ≡ self.old.sink }
     {
-        self.tap.learn(note);
+        self.tap.learn_last(rt, note);
         if self.served.fault.is_some() {
             return;
         }
-        step(&mut self.tap, &mut self.sink, self.pace, &mut self.served);
+        let mut slots = [0; 512];
+        let stamp = self.tap.kept(&mut slots);
+        put_newest(
+            &self.tap,
+            &slots,
+            stamp,
+            &mut self.sink,
+            self.pace,
+            &mut self.served,
+        );
     }
 }

@@ -50,9 +50,9 @@ pub struct LiveOutcome {
 
 /// Plays the script lines that are left, up to `quit` or the end, over a console as it is at its opening: each is answered
 /// on the output as in a session, and each accepted command is published at once. Beside it a worker for each outlet, of
-/// universe 1 at place 0 and so on, writes the lines of newer and newer versions of its universe's frame. At the end each
-/// outlet that had no fault gets the line of what is published last. Each line is handed on at once, and all replies are
-/// where the session ended Ok.
+/// universe 1 at place 0 and so on, writes the lines of newer and newer versions of its universe's frame. Each is that of commands
+/// that are published by the end, and the last one of an outlet that had no fault is that of all of them. Each line is handed on at
+/// once, and all replies are where the session ended Ok.
 ///
 /// As long as fewer than 2^62 commands were accepted each command is admitted, so that `Memory` refuses only an edit that the desk
 /// accepts. A fault of an outlet ends that outlet alone: it isn't written again. `AllocError` comes only before the first line, and then
@@ -222,7 +222,7 @@ fn play_over<
         lanes,
     );
     let Some(gate) = gate else { unreachable!() };
-    let faults = give_back(&gate, lanes, outlets);
+    let faults = give_back(rt, &gate, lanes, outlets);
     gate.close(rt);
     Ok(LiveOutcome {
         session,
@@ -315,8 +315,9 @@ fn fill_lanes<'a, G: Origin, K: Sink + Drop, C: Pace>(
     lanes
 }
 
-/// Each lane learns what is published and takes once more, and its sink goes back to its place.
-fn give_back<G: Origin, K: Sink + Drop, C: Pace>(
+/// Each lane learns what is published and writes its line, and its sink goes back to its place.
+fn give_back<G: Origin, R: Wait, K: Sink + Drop, C: Pace>(
+    rt: &R,
     gate: &Gate<G, GateWriter<G>>,
     mut lanes: Vec<Lane<'_, GatePort<G>, K, C>>,
     outlets: &mut [Option<K>],
@@ -331,7 +332,7 @@ fn give_back<G: Origin, K: Sink + Drop, C: Pace>(
     let count = outlets.len();
     let mut faults = [None; OUTLETS];
     while let Some(mut lane) = lanes.pop() {
-        lane.finish(gate.note());
+        lane.finish(rt, gate.note());
         let Lane {
             tap: _tap,
             sink,

@@ -3,9 +3,10 @@ ghost use Rattle.std.specs.Prelude.{◌≡◌, ◌<◌, ◌≤◌, [], IsTrue, t
 ghost use mathlib.Core.List.{IsPrefix};
 ghost use Rattle.lx_io.specs.Causes.{Rose};
 ghost use Rattle.lx_io.specs.Puts.{Puts};
+ghost use Rattle.lx_gate.specs.Frames.{IsFrame};
 ghost use Rattle.lx_gate.specs.Readings.{newest};
 ghost use Rattle.lx_workers.specs.Lines.{stamped_line};
-ghost use Rattle.lx_workers.specs.Works.{HasServed, HasStepped, HasLooked};
+ghost use Rattle.lx_workers.specs.Works.{HasServed, HasStepped, HasPutNewest, HasLooked};
 
 use crate::Halt;
 use lx_gate::{Port, Stamp, Tap};
@@ -73,12 +74,7 @@ pub fn serve<R: Wait, P: Port, K: Sink, C: Pace, H: Halt>(
 }
 
 /// One take, and its line where it is the first or newer than the last.
-pub(crate) fn step<P: Port, K: Sink, C: Pace>(
-    tap: &mut Tap<P>,
-    sink: &mut K,
-    pace: &C,
-    served: &mut Served,
-)
+fn step<P: Port, K: Sink, C: Pace>(tap: &mut Tap<P>, sink: &mut K, pace: &C, served: &mut Served)
     requires { served.old.fault ≡ None }
     ensures stepped { HasStepped K.Sink P.show tap.old tap.new sink.old sink.new served.old served.new }
     ensures looked { HasLooked tap.old.told tap.new.told }
@@ -86,10 +82,26 @@ pub(crate) fn step<P: Port, K: Sink, C: Pace>(
     let mut slots = [0; 512];
     let stamp = tap.take(&mut slots);
     served.takes = served.takes.saturating_add(1);
+    put_newest(tap, &slots, stamp, sink, pace, served);
+}
+
+/// The line of what a tap keeps, where it is the first or newer than the last.
+pub(crate) fn put_newest<P: Port, K: Sink, C: Pace>(
+    tap: &Tap<P>,
+    slots: &[u8; 512],
+    stamp: Stamp,
+    sink: &mut K,
+    pace: &C,
+    served: &mut Served,
+)
+    requires none { served.old.fault ≡ None }
+    requires version { IsFrame P.show (newest tap.now.told) tap.now.universe slots.now stamp }
+    ensures { HasPutNewest K.Sink P.show tap.now sink.old sink.new served.old served.new }
+{
     if !is_newer(stamp.count, served.last) {
         return;
     }
-    match put_line(tap.universe(), &slots, stamp, sink) {
+    match put_line(tap.universe(), slots, stamp, sink) {
         Ok(()) => {
             served.taken = served.taken.saturating_add(1);
             served.last = Some(stamp.count);

@@ -1,34 +1,15 @@
-use Rattle.lx_workers.proofs.Imports.{rules, ◌∙◌, newest}
+use Rattle.lx_workers.proofs.Imports.{newest}
 use Rattle.lx_workers.proofs.TapSteps.{longest_begins, taken}
-use Rattle.lx_workers.proofs.WorkerSteps.{stepped_none, stepped_line, stepped_fault}
+use Rattle.lx_workers.proofs.WorkerSteps.{stepped}
 use Rattle.lx_workers.proofs.worker.step.Goals as goal
 
-pub returns-then-not-is_newer-clause-stepped : goal.returns-then-not-is_newer-clause-stepped
-returns-then-not-is_newer-clause-stepped g c =
-    let t = c.take-stamp.ensures in
-    rw c.saturating_add-served.ensures (stepped_none _ _ c.args.tap.now c.take-stamp.new.self c.args.sink.now c.args.served.now
-    c.take-stamp.result.count c.requires
-    t.universe
-    (longest_begins c.args.tap.now.told.seen c.args.tap.now.told.learnt (newest c.take-stamp.new.self.told) t.seen t.heard)
-    (taken _ _ t.seen t.reading) t.version.count_is (search rules))
+pub put_newest-requires-clause-version : goal.put_newest-requires-clause-version
+put_newest-requires-clause-version g c = rw c.take-stamp.ensures.universe c.take-stamp.ensures.version
 
-pub returns-in-Ok-clause-stepped : goal.returns-in-Ok-clause-stepped
-returns-in-Ok-clause-stepped g c =
+pub returns-clause-stepped : goal.returns-clause-stepped
+returns-clause-stepped g c =
     let t = c.take-stamp.ensures in
-    rw (c.saturating_add-served.ensures, c.saturating_add-served-in-Ok.ensures)
-    (stepped_line _ _ c.args.tap.now c.take-stamp.new.self c.args.sink.now c.put_line.new.sink
-    c.args.served.now c.take-stamp.new.out c.take-stamp.result c.requires t.universe
+    stepped _ _ c.args.tap.now c.take-stamp.new.self c.args.sink.now c.put_newest.new.sink c.args.served.now c.put_newest.new.served
+    c.saturating_add-served.result c.saturating_add-served.ensures t.universe
     (longest_begins c.args.tap.now.told.seen c.args.tap.now.told.learnt (newest c.take-stamp.new.self.told) t.seen t.heard)
-    (taken _ _ t.seen t.reading) t.version (search rules)
-    (rw (c.universe.ensures.value ∙ t.universe) at c.in-Ok.ensures.puts.whole) c.in-Ok.ensures.puts.cause.kept.0
-    c.in-Ok.ensures.puts.cause.kept.1 c.in-Ok.ensures.handed_on)
-
-pub returns-in-Err-clause-stepped : goal.returns-in-Err-clause-stepped
-returns-in-Err-clause-stepped g c =
-    let t = c.take-stamp.ensures in
-    rw c.saturating_add-served.ensures (stepped_fault _ _ c.args.tap.now c.take-stamp.new.self c.args.sink.now c.put_line.new.sink c.args.served.now
-    c.take-stamp.new.out
-    c.take-stamp.result c.in-Err.fault c.requires t.universe
-    (longest_begins c.args.tap.now.told.seen c.args.tap.now.told.learnt (newest c.take-stamp.new.self.told) t.seen t.heard)
-    (taken _ _ t.seen t.reading) t.version (search rules)
-    (rw (c.universe.ensures.value ∙ t.universe, c.in-Err.is) at c.put_line.ensures.puts))
+    (taken _ _ t.seen t.reading) c.put_newest.ensures
