@@ -127,6 +127,7 @@ module _ {S K : Type 0} (ample : Bool) (told_in : ToldBySource S) (told_out : To
     each = back;
     none = h.none;
     no_more = λ operator past. h.no_more operator (omega (arith, past, n));
+    others = λ place fault at. omega (arith, h.others place fault at, n);
     written = written_by ample show h.lines (told_out.holds sink) (told_out.holds sink') console tally output told s h.written tells;
   }
 

@@ -59,7 +59,7 @@ WritesLines ample status.Memory show lines told held held' = TranscriptPrefix am
 WritesLines ample other show lines told held held' = ⊥
 
 -- The first n operators were served over a show: each place has its source again, and `lines` has what was taken of it. Without a
--- fault of its own these are all its lines up to `quit` or the end, and with one those that were taken whole. No others have lines.
+-- fault of its own these are all its lines up to `quit` or the end, and with one those that were taken whole. No others have lines or a fault.
 pub record Serves {S : Type 0} (ample : Bool) (told_in : ToldBySource S) (show : Show) (count : ℕ) (operators operators' : List (Option S))
     (held held' : Known) (s : Status) : Type 0 where
   pub lines : ℕ → List (List ℕ)
@@ -68,6 +68,7 @@ pub record Serves {S : Type 0} (ample : Bool) (told_in : ToldBySource S) (show :
       → ScriptIsBack told_in operators' told place start (lines (place + 1))
   pub none : lines 0 ≡ []
   pub no_more : (operator : ℕ) → count < operator → lines operator ≡ []
+  pub others : (place : ℕ) (fault : OperatorFault) → slice_get told place ≡ Some (Some fault) → place < count
   pub written : WritesLines ample s show lines told held held'
 
 -- the same, or memory ran out before the first line, and then nothing was read or written

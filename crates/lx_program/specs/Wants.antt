@@ -32,3 +32,7 @@ WantsCrewOrWords told words words' refusals heap heap' queues queues' input inpu
     → (Rose words words'
     × ((heap' ≡ heap) × ((queues' ≡ queues) × ((input' ≡ input) × ((output' ≡ output) × (operators' ≡ operators))))))
     ⊎ CrewRunsShort told (refusals heap) (refusals heap') queues queues' output output'
+
+-- The words are read once: their heap refused nothing, or Memory is told and nothing else was touched.
+abbrev pub ReadsWordsOnce : (words words' : ℕ) → (untouched : Type 0) → Status → Type 0
+ReadsWordsOnce words words' untouched s = (words' ≡ words) ⊎ ((s ≡ status.Memory) × untouched)

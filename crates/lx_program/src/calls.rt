@@ -10,7 +10,7 @@ ghost use Rattle.lx_desk.specs.Output.{WritesPrefix};
 ghost use Rattle.lx_spec.specs.declared.Job.TheVariants.{Make};
 ghost use Rattle.lx_program.specs.Words.{begins_with_dash};
 ghost use Rattle.lx_program.specs.NamedJob.{OfJob};
-ghost use Rattle.lx_program.specs.Wants.{WantsMemoryOrWords};
+ghost use Rattle.lx_program.specs.Wants.{ReadsWordsOnce, WantsMemoryOrWords};
 
 use crate::words::{WordsFault, words_of_in};
 use crate::words_heap::WordsHeap;
@@ -89,6 +89,10 @@ pub fn desk_in<H: Heap, S: Source, K: Sink>(
     // was asked of them.
     ensures wanted { WantsMemoryOrWords K.Sink words_heap.old words_heap.new H.refusals heap.old heap.new input.old input.new
         output.old output.new result }
+
+    // Where the words' heap refused some, Memory is told and nothing was asked of the heap, read or written.
+    ensures words_kept { ReadsWordsOnce words_heap.old words_heap.new ((heap.new ≡ heap.old) × ((input.new ≡ input.old)
+        × (output.new ≡ output.old))) result }
     ensures dash { list_any begins_with_dash (map string_bytes words.now) ≡ true → result ≡ Status.Usage }
     ensures unread { (cues : ℕ) → job_of (map string_bytes words.now) ≡ Some (Make cues) → input.new ≡ input.old }
     ensures later { H.refusals heap.old ≤ H.refusals heap.new }

@@ -9,7 +9,7 @@ ghost use Rattle.lx_session.specs.Spared.{HasStood};
 ghost use Rattle.lx_desk.specs.Crew.{HasCrewCause, HasCrewEnded, KeepsOperators, WritesCrewFront};
 ghost use Rattle.lx_desk.specs.Finished.{Finishes, HasWanted};
 ghost use Rattle.lx_program.specs.NamedJob.{OfCrew, in_use};
-ghost use Rattle.lx_program.specs.Wants.{WantsCrewOrWords};
+ghost use Rattle.lx_program.specs.Wants.{ReadsWordsOnce, WantsCrewOrWords};
 
 use crate::words::{WordsFault, crew_of};
 use crate::words_heap::WordsHeap;
@@ -112,6 +112,10 @@ pub fn desk_crew_in<
     // did, before anything was asked of them.
     ensures wanted { WantsCrewOrWords K.Sink words_heap.old words_heap.new H.refusals heap.old heap.new queues.old queues.new
         input.old input.new output.old output.new operators.old operators.new result }
+
+    // Where the words' heap refused some, Memory is told and nothing was asked of the others, read or written.
+    ensures words_kept { ReadsWordsOnce words_heap.old words_heap.new ((heap.new ≡ heap.old) × ((queues.new ≡ queues.old)
+        × ((input.new ≡ input.old) × ((output.new ≡ output.old) × (operators.new ≡ operators.old))))) result }
     ensures cause { HasCrewCause S.Source result (I.faults input.old) (I.faults input.new) (K.faults output.old) (K.faults output.new)
         (in_use (job_of (map string_bytes words.now))) operators.old operators.new }
     ensures later { H.refusals heap.old ≤ H.refusals heap.new }

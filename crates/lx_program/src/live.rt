@@ -8,7 +8,7 @@ ghost use Rattle.lx_workers.specs.Places.{IsFull};
 ghost use Rattle.lx_desk.specs.Finished.{Finishes};
 ghost use Rattle.lx_desk.specs.Live.{DecidesInOrder, HasLiveCause, HasLived, KeepsOutlets, LivesToEnd};
 ghost use Rattle.lx_program.specs.NamedJob.{OfRun};
-ghost use Rattle.lx_program.specs.Wants.{WantsRunOrWords};
+ghost use Rattle.lx_program.specs.Wants.{ReadsWordsOnce, WantsRunOrWords};
 
 use crate::words::{WordsFault, live_run_of};
 use crate::words_heap::WordsHeap;
@@ -133,6 +133,10 @@ pub fn desk_live_in<
     // the words' heap did, before anything was asked of them.
     ensures wanted { WantsRunOrWords O.Sink K.Sink words_heap.old words_heap.new H.refusals heap.old heap.new writers.old writers.new
         input.old input.new output.old output.new outlets.old outlets.new result }
+
+    // Where the words' heap refused some, Memory is told and nothing was asked of the others, read or written.
+    ensures words_kept { ReadsWordsOnce words_heap.old words_heap.new ((heap.new ≡ heap.old) × ((writers.new ≡ writers.old)
+        × ((input.new ≡ input.old) × ((output.new ≡ output.old) × (outlets.new ≡ outlets.old))))) result }
     ensures later { H.refusals heap.old ≤ H.refusals heap.new }
     ensures writers_later { writers.old ≤ writers.new }
     ensures words_later { words_heap.old ≤ words_heap.new }

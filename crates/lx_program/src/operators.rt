@@ -1,9 +1,9 @@
 //! The scripts of the program's operators: a file for each.
 
-ghost use Rattle.std.specs.Prelude.{◌≡◌, length, None, IsSome};
+ghost use Rattle.std.specs.Prelude.{◌≡◌, length, IfSome, None, IsSome};
 ghost use Rattle.std.specs.Io.{ReadsAtMost};
 ghost use Rattle.lx_base.specs.declared.TheConstants.{OPERATORS};
-ghost use Rattle.lx_program.specs.Places.{AreFilled};
+ghost use Rattle.lx_program.specs.Places.{AreFilled, OfEachPlace};
 
 use lx_base::OPERATORS;
 use lx_io::{Failed, Source};
@@ -29,8 +29,10 @@ pub struct OperatorFile<'r, R> {
 }
 
 impl<'r, R: Files<File = File>> OperatorFile<'r, R> {
-    /// The file of an operator, from 1 to `OPERATORS`. Nothing is opened yet.
-    pub fn new(rt: &'r R, alloc: Global, operator: u8) -> OperatorFile<'r, R> {
+    /// The file of an operator, from 1 to `OPERATORS`. Nothing is opened yet, and no fault was told.
+    pub fn new(rt: &'r R, alloc: Global, operator: u8) -> OperatorFile<'r, R>
+        ensures faults { ⟦<OperatorFile<'r, R> as Source>⟧.faults result ≡ 0 }
+    {
         OperatorFile {
             rt,
             alloc,
@@ -83,13 +85,14 @@ impl<R: Files<File = File>> Source for OperatorFile<'_, R> {
     }
 }
 
-/// The files of all operators.
+/// The files of all operators. None has told a fault.
 pub fn scripts<R: Files<File = File>>(
     rt: &R,
     alloc: Global,
 ) -> [Option<OperatorFile<'_, R>>; PLACES]
     ensures count { length result ≡ OPERATORS }
     ensures full { AreFilled result }
+    ensures faults { OfEachPlace result (λ script. script.faults ≡ 0) }
 {
     [
         script(rt, alloc, 1),
@@ -101,7 +104,8 @@ pub fn scripts<R: Files<File = File>>(
 
 /// The file of an operator.
 fn script<R: Files<File = File>>(rt: &R, alloc: Global, operator: u8) -> Option<OperatorFile<'_, R>>
-    ensures { IsSome result }
+    ensures some { IsSome result }
+    ensures faults { IfSome result (λ script. script.faults ≡ 0) }
 {
     Some(OperatorFile::new(rt, alloc, operator))
 }

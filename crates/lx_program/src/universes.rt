@@ -1,9 +1,9 @@
 //! The outlets of the program's live runs: a file for each universe.
 
-ghost use Rattle.std.specs.Prelude.{◌≡◌, ◌≤◌, [], length, IfOk, None, IsSome};
+ghost use Rattle.std.specs.Prelude.{◌≡◌, ◌≤◌, [], length, IfOk, IfSome, None, IsSome};
 ghost use Rattle.lx_io.specs.Causes.{Rose};
 ghost use Rattle.lx_base.specs.declared.TheConstants.{UNIVERSES};
-ghost use Rattle.lx_program.specs.Places.{AreFilled};
+ghost use Rattle.lx_program.specs.Places.{AreFilled, OfEachPlace};
 
 use lx_base::UNIVERSES;
 use lx_io::{Sink, SinkFault};
@@ -32,8 +32,11 @@ pub struct UniverseFile<'r, R> {
 }
 
 impl<'r, R: Files<File = File>> UniverseFile<'r, R> {
-    /// The file of a universe, from 1 to `UNIVERSES`. Nothing is opened yet.
-    pub fn new(rt: &'r R, alloc: Global, universe: u8) -> UniverseFile<'r, R> {
+    /// The file of a universe, from 1 to `UNIVERSES`. Nothing is opened yet, and no fault was told.
+    pub fn new(rt: &'r R, alloc: Global, universe: u8) -> UniverseFile<'r, R>
+        ensures faults { ⟦<UniverseFile<'r, R> as Sink>⟧.faults result ≡ 0 }
+        ensures wants { ⟦<UniverseFile<'r, R> as Sink>⟧.wants result ≡ 0 }
+    {
         UniverseFile {
             rt,
             alloc,
@@ -126,10 +129,12 @@ impl<R: Files<File = File>> Sink for UniverseFile<'_, R> {
     }
 }
 
-/// The files of all universes.
+/// The files of all universes. None has told a fault.
 pub fn files<R: Files<File = File>>(rt: &R, alloc: Global) -> [Option<UniverseFile<'_, R>>; OUTLETS]
     ensures count { length result ≡ UNIVERSES }
     ensures full { AreFilled result }
+    ensures faults { OfEachPlace result (λ outlet. outlet.faults ≡ 0) }
+    ensures wants { OfEachPlace result (λ outlet. outlet.wants ≡ 0) }
 {
     [
         file(rt, alloc, 1),
@@ -169,7 +174,9 @@ pub fn files<R: Files<File = File>>(rt: &R, alloc: Global) -> [Option<UniverseFi
 
 /// The file of a universe.
 fn file<R: Files<File = File>>(rt: &R, alloc: Global, universe: u8) -> Option<UniverseFile<'_, R>>
-    ensures { IsSome result }
+    ensures some { IsSome result }
+    ensures faults { IfSome result (λ outlet. outlet.faults ≡ 0) }
+    ensures wants { IfSome result (λ outlet. outlet.wants ≡ 0) }
 {
     Some(UniverseFile::new(rt, alloc, universe))
 }

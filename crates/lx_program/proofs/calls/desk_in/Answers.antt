@@ -63,3 +63,12 @@ returns-in-Err-Memory-clause-spared g c = λ stood.
 
 pub returns-in-Err-Memory-clause-wanted : goal.returns-in-Err-Memory-clause-wanted
 returns-in-Err-Memory-clause-wanted g c = λ is. inl (c.in-Err-Memory.ensures.cause.failed c.in-Err-Memory.field-0-is, (refl, (refl, refl)))
+
+pub returns-in-Ok-clause-words_kept : goal.returns-in-Ok-clause-words_kept
+returns-in-Ok-clause-words_kept g c = inl c.in-Ok.ensures.cause.kept
+
+pub returns-in-Err-Usage-clause-words_kept : goal.returns-in-Err-Usage-clause-words_kept
+returns-in-Err-Usage-clause-words_kept g c = inl (c.in-Err-Usage.ensures.cause.others (λ is. cc))
+
+pub returns-in-Err-Memory-clause-words_kept : goal.returns-in-Err-Memory-clause-words_kept
+returns-in-Err-Memory-clause-words_kept g c = inr (refl, (refl, (refl, refl)))

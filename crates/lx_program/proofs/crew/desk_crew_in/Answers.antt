@@ -52,3 +52,12 @@ returns-in-Err-Usage-clause-spared g c = λ stood.
 pub returns-in-Err-Usage-clause-prefix : goal.returns-in-Err-Usage-clause-prefix
 returns-in-Err-Usage-clause-prefix g c =
     of_no_crew (job_of (map string_bytes c.args.words.now)) (g.I.Source.left c.args.input.now) _ (c.in-Err-Usage.ensures.usage (ap Err c.in-Err-Usage.field-0-is))
+
+pub returns-in-Ok-clause-words_kept : goal.returns-in-Ok-clause-words_kept
+returns-in-Ok-clause-words_kept g c = inl c.in-Ok.ensures.cause.kept
+
+pub returns-in-Err-Usage-clause-words_kept : goal.returns-in-Err-Usage-clause-words_kept
+returns-in-Err-Usage-clause-words_kept g c = inl (c.in-Err-Usage.ensures.cause.others (λ is. cc))
+
+pub returns-in-Err-Memory-clause-words_kept : goal.returns-in-Err-Memory-clause-words_kept
+returns-in-Err-Memory-clause-words_kept g c = inr (refl, (refl, (refl, (refl, (refl, refl)))))

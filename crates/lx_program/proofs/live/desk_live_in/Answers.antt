@@ -58,3 +58,12 @@ pub returns-in-Err-Memory-clause-spared_order : goal.returns-in-Err-Memory-claus
 returns-in-Err-Memory-clause-spared_order g c = λ stood.
     of_each_run (job_of (map string_bytes c.args.words.now)) (g.S.Source.left c.args.input.now) _
     (λ universes form bytes. inl (inl (refl, refl)))
+
+pub returns-in-Ok-clause-words_kept : goal.returns-in-Ok-clause-words_kept
+returns-in-Ok-clause-words_kept g c = inl c.in-Ok.ensures.cause.kept
+
+pub returns-in-Err-Usage-clause-words_kept : goal.returns-in-Err-Usage-clause-words_kept
+returns-in-Err-Usage-clause-words_kept g c = inl (c.in-Err-Usage.ensures.cause.others (λ is. cc))
+
+pub returns-in-Err-Memory-clause-words_kept : goal.returns-in-Err-Memory-clause-words_kept
+returns-in-Err-Memory-clause-words_kept g c = inr (refl, (refl, (refl, (refl, (refl, refl)))))
