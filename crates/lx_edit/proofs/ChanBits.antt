@@ -3,8 +3,8 @@ use Rattle.lx_edit.proofs.Imports.{◌≡◌, ◌≢◌, ℕ, zero, suc, ◌+◌
 use Rattle.lx_edit.proofs.Imports.{false, List, length, get_or, set, replicate, refl, ◌∙◌, sym, ap, subst, inl, inr, arith, w64, ◌==◌, ◌||◌}
 use Rattle.lx_edit.proofs.Imports.{◌&&◌, bit_or, slice_index, bit_at, cases_eq, false≢true, CHANNELS, nat_tests, get_or-replicate, get_or-set_same}
 use Rattle.lx_edit.proofs.Imports.{get_or-set_other, bit_at-zero, bit_at_ones, bit_at_set_same, bit_at_set_other, ChanSet, is_chan, eq_other, eq_true}
+use Rattle.lx_edit.proofs.Imports.{bit_at_above, bit_at-trailing_zeros, cases_lt, shr-shr, shr_le, trailing_zeros}
 use Rattle.std.proofs.Math.Nat.{div-add-mod}
-use Rattle.std.proofs.lemmas.Nat.{shr-shr}
 use Rattle.lx_edit.specs.ChanSet.{has_chan}
 
 pub is_chan-in : (c : ℕ) → 1 ≤ c → c ≤ CHANNELS → is_chan c ≡ true
@@ -114,14 +114,45 @@ pub has_chan-with : (words : List ℕ) (c x : ℕ) → is_chan c ≡ true → (c
     → has_chan (record { words = with_chan words c }) x ≡ (x == c || has_chan (record { words = words }) x)
 has_chan-with words c x here within = with_step words c x (is_chan x) refl here within
 
--- no channel of the rest of a word without a bit is in the set
-pub has_chan-clear : (chans : ChanSet) (place x : ℕ) → slice_index chans.words (place / 64) / 2 ^ (place % 64) ≡ 0 → place < x
-    → x ≤ place / 64 * 64 + 64 → has_chan chans x ≡ false
+-- the word of a place, shifted down to it
+abbrev pub rest_of : ChanSet → ℕ → ℕ
+rest_of chans place = slice_index chans.words (place / 64) / 2 ^ (place % 64)
+
+in_rest : (chans : ChanSet) (place i x : ℕ) → place % 64 + i < 64 → x ≡ place + i + 1
+    → has_chan chans x ≡ (is_chan x && (bit_at (rest_of chans place) i == 1))
 unfolding has_chan
-has_chan-clear chans place x clear from to =
+in_rest chans place i x within at =
+    let word : (x - 1) / 64 ≡ place / 64 = omega (arith, within, at) in
+    let bit : (x - 1) % 64 ≡ place % 64 + i = omega (arith, within, at) in
+    rw (word, bit) (ap (λ n. is_chan x && (n % 2 == 1)) (sym (shr-shr (slice_index chans.words (place / 64)) (place % 64) i)))
+
+-- a channel of the word without a bit isn't in the set
+pub has_chan-clear : (chans : ChanSet) (place x : ℕ) → place < x → x ≤ place / 64 * 64 + 64 → bit_at (rest_of chans place) (x - 1 - place) ≡ 0
+    → has_chan chans x ≡ false
+has_chan-clear chans place x from to clear = in_rest chans place (x - 1 - place) x (omega (arith, from, to)) (omega (arith, from))
+    ∙ ap (λ n. is_chan x && (n == 1)) clear ∙ both_false (is_chan x)
+
+-- the next channel of the word
+pub record IsNext (chans : ChanSet) (place c : ℕ) : Type 0 where
+  pub most : c ≤ CHANNELS
+  pub has : has_chan chans c ≡ true
+  pub first : (x : ℕ) → place < x → x < c → has_chan chans x ≡ false
+
+-- it is that of the lowest bit
+pub lowest : (chans : ChanSet) (place : ℕ) → place < CHANNELS → slice_index chans.words (place / 64) < 2 ^ 64 → rest_of chans place ≢ 0
+    → IsNext chans place (place + trailing_zeros w64 (rest_of chans place) + 1)
+lowest chans place room fits some =
     let w = slice_index chans.words (place / 64) in
-    let i = x - 1 - place in
-    let word : (x - 1) / 64 ≡ place / 64 = omega (arith, from, to) in
-    let bit : (x - 1) % 64 ≡ place % 64 + i = omega (arith, from, to) in
-    let none : bit_at w (place % 64 + i) ≡ 0 = ap (λ n. n % 2) (sym (shr-shr w (place % 64) i)) ∙ ap (λ n. bit_at n i) clear ∙ bit_at-zero i in
-    rw (word, bit, none) (both_false (is_chan x))
+    let s = place % 64 in
+    let t = trailing_zeros w64 (w / 2 ^ s) in
+    let bits = bit_at-trailing_zeros w64 (w / 2 ^ s) (omega (arith, some)) (omega (arith, fits, shr_le w s)) in
+    let within : s + t < 64 = elim (cases_lt (s + t) 64) [
+      | inl less ↦ less
+      | inr past ↦ omega (arith, (sym (bit_at_above w 64 (s + t) fits past) ∙ sym (ap (λ n. n % 2) (shr-shr w s t)) ∙ bits.1))
+    ] in
+    let most : place + t + 1 ≤ CHANNELS = omega (arith, within, room) in
+    record {
+      most = most;
+      has = in_rest chans place t (place + t + 1) within refl ∙ rw (is_chan-in (place + t + 1) (omega arith) most, bits.1) refl;
+      first = λ x from to. has_chan-clear chans place x from (omega (arith, within, to)) (bits.2 (x - 1 - place) (omega (arith, from, to)));
+    }

@@ -1,6 +1,6 @@
 -- What the proofs of this crate import from its specs and from other crates. It declares nothing.
 pub use Rattle.std.proofs.Common.{[], ℕ, ◌%◌, ◌&&◌, ◌*◌, ◌++◌, ◌+◌, ◌-◌, ◌/◌, ◌<◌, ◌==◌, ◌^◌, ◌||◌, ◌∙◌}
-pub use Rattle.std.proofs.Common.{◌∷◌, ◌≡◌, ◌≢◌, ◌≤◌, ap, arith, bit_or, Bool, Bor, cond, drop, eqb-true, Err, false, filter, find}
+pub use Rattle.std.proofs.Common.{◌∷◌, ◌≡◌, ◌≢◌, ◌≤◌, ap, arith, bit_or, Bool, Bor, cond, drop, Err, false, filter, find}
 pub use Rattle.std.proofs.Common.{fold, get_or, get_or-set_other, get_or-set_same, IfOk, IfSome, if◌then◌else◌, inl, inr, is_none, is_some, IsTrue}
 pub use Rattle.std.proofs.Common.{length, length-append, List, map, nat_le, nat_lt, None, not, Ok, Option, option_map, refl, replicate, Result, reverse, rules}
 pub use Rattle.std.proofs.Common.{set, slice_get, slice_index, Some, subst, suc, sym, take, take-append-drop, take_all, true, unwrap_or, vec_capacity, w64, zero}
@@ -49,7 +49,8 @@ pub use Rattle.std.proofs.lemmas.List.Elements.{All-from_recursion, filter-appen
 pub use Rattle.std.proofs.lemmas.List.Folds.{find-append}
 pub use Rattle.std.proofs.lemmas.List.FromFn.{map-range_with_len_more}
 pub use Rattle.std.proofs.lemmas.List.Sums.{fold-append, fold_more}
-pub use Rattle.std.proofs.lemmas.Nat.Bits.{bit_at-zero, bit_at_ones, bit_at_set_other, bit_at_set_same, shr_and_one}
-pub use Rattle.std.specs.Int.{bit_at}
+pub use Rattle.std.proofs.lemmas.Nat.{shr-shr, shr_le}
+pub use Rattle.std.proofs.lemmas.Nat.Bits.{bit_at-trailing_zeros, bit_at-zero, bit_at_above, bit_at_ones, bit_at_set_other, bit_at_set_same}
+pub use Rattle.std.specs.Int.{bit_at, trailing_zeros}
 pub use Rattle.std.specs.List.{AllByRecursion, range_with_len}
 pub use Rattle.std.specs.Option.{IsSomeAnd, option_copied, option_map_or, option_or}

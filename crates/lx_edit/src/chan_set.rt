@@ -40,9 +40,7 @@ impl ChanSet {
     pub fn contains(&self, c: Chan) -> bool
         ensures { result ≡ has_chan self.now c }
     {
-        let place = c.get() - 1;
-        let word = self.words[(place / 64) as usize];
-        (word >> (place % 64)) & 1 == 1
+        self.next_above(c.get() - 1, c.get()).is_some()
     }
 
     /// Adds the channel.
@@ -63,15 +61,15 @@ impl ChanSet {
     {
         let mut place = k;
         while place < last {
-            if self.words[(place / 64) as usize] >> (place % 64) == 0 {
-                place = place / 64 * 64 + 64;
-            } else {
-                let c = Chan::at(place as usize);
-                if self.contains(c) {
-                    return Some(c);
+            let rest = self.words[(place / 64) as usize] >> (place % 64);
+            if rest != 0 {
+                let c = Chan::at((place + rest.trailing_zeros()) as usize);
+                if c.get() > last {
+                    return None;
                 }
-                place += 1;
+                return Some(c);
             }
+            place = place / 64 * 64 + 64;
         }
         None
     }
