@@ -17,7 +17,7 @@ pub use Rattle.lx_desk.specs.Generator.{after_cue, after_setting, after_turn, ch
 pub use Rattle.lx_desk.specs.Generator.{turn_from, turn_text}
 pub use Rattle.lx_desk.specs.Live.{ArePlayed, AreServed, DecidesInOrder, HasFailedOutlet, HasLiveCause, HasLived, HasPlayedLive, HaveGot, HaveVersions}
 pub use Rattle.lx_desk.specs.Live.{LacksMemory, live_after, live_session, LiveAllows, LivesInFront, LivesTaken, LivesToEnd, OutletFailed, PlaysInFront}
-pub use Rattle.lx_desk.specs.Live.{OutletWanted, PlaysScript, PlaysTaken, PlaysToEnd, PlaysWhole, TellsOutlets, TellsRun, WantsLive}
+pub use Rattle.lx_desk.specs.Live.{OutletsFinish, OutletWanted, PlaysScript, PlaysTaken, PlaysToEnd, PlaysWhole, TellsOutlets, TellsRun, WantsLive}
 pub use Rattle.lx_desk.specs.Output.{AnswersInFront, AnswersScript, AnswersTaken, JobFailures, NothingOfCut, RepliesToTaken, ScriptFailures, WritesAll}
 pub use Rattle.lx_desk.specs.Output.{WritesFront, WritesPrefix, WritesTaken}
 pub use Rattle.lx_desk.specs.Plays.{Plays}

@@ -8,7 +8,7 @@ use Rattle.lx_desk.proofs.Imports.{HasSessionCause, IsFull, Status, status_for, 
 use Rattle.lx_desk.proofs.Imports.{AreServed, PlaysInFront, PlaysTaken, HasPlayedLive, ArePlayed, OutletFailed, PlaysToEnd, LacksMemory, HasFailedOutlet}
 use Rattle.lx_desk.proofs.Imports.{DecidesInOrder, Finishes, HasLiveCause, TellsOutlets, TellsRun, Appends, AppendsFront, ToldBySink, ToldBySource}
 use Rattle.std.specs.Prelude.{◌&&◌}
-use Rattle.lx_desk.proofs.Imports.{Rose, HasStood, OutletWanted, WantsLive, WantsMemory}
+use Rattle.lx_desk.proofs.Imports.{Rose, HasStood, OutletsFinish, OutletWanted, WantsLive, WantsMemory}
 use Rattle.std.proofs.lemmas.Bool.{cases_lt}
 use Rattle.lx_io.specs.Causes.{one_more}
 use Rattle.lx_io.specs.declared.sink.SinkFault.TheVariants as sinks
@@ -429,6 +429,40 @@ not_usage (Err faults.ReadFault) results unsent s tells = λ e. let bad : status
 not_usage (Err faults.WriteFault) results unsent s tells = λ e. let bad : status.WriteFault ≡ status.Usage = sym tells ∙ e in absurd cc
 not_usage (Err faults.InputTooLong) results unsent s tells = λ e. let bad : status.InputTooLong ≡ status.Usage = sym tells ∙ e in absurd cc
 not_usage (Err faults.Memory) results unsent s tells = λ e. let bad : status.Memory ≡ status.Usage = sym tells ∙ e in absurd cc
+
+pub not_live : (session : Result Tally SessionFault) (results : List (Option SinkFault)) (unsent : ℕ) (s : Status)
+    → TellsRun session results unsent s → s ≢ status.Live
+not_live (Ok tally) results unsent s tells = λ e. subst (λ (t : Status). TellsOutlets results unsent t) e tells
+not_live (Err faults.ReadFault) results unsent s tells = λ e. let bad : status.ReadFault ≡ status.Live = sym tells ∙ e in absurd cc
+not_live (Err faults.WriteFault) results unsent s tells = λ e. let bad : status.WriteFault ≡ status.Live = sym tells ∙ e in absurd cc
+not_live (Err faults.InputTooLong) results unsent s tells = λ e. let bad : status.InputTooLong ≡ status.Live = sym tells ∙ e in absurd cc
+not_live (Err faults.Memory) results unsent s tells = λ e. let bad : status.Memory ≡ status.Live = sym tells ∙ e in absurd cc
+
+-- Ok tells of no fault of an outlet
+ok_tells : (session : Result Tally SessionFault) (results : List (Option SinkFault)) (unsent : ℕ) (s : Status)
+    → TellsRun session results unsent s → s ≡ status.Ok → TellsOutlets results unsent status.Ok
+ok_tells (Ok tally) results unsent s tells ok = subst (λ (t : Status). TellsOutlets results unsent t) ok tells
+ok_tells (Err faults.ReadFault) results unsent s tells ok = let bad : status.ReadFault ≡ status.Ok = sym tells ∙ ok in absurd cc
+ok_tells (Err faults.WriteFault) results unsent s tells ok = let bad : status.WriteFault ≡ status.Ok = sym tells ∙ ok in absurd cc
+ok_tells (Err faults.InputTooLong) results unsent s tells ok = let bad : status.InputTooLong ≡ status.Ok = sym tells ∙ ok in absurd cc
+ok_tells (Err faults.Memory) results unsent s tells ok = let bad : status.Memory ≡ status.Ok = sym tells ∙ ok in absurd cc
+
+pub outlets_finish : {K : Type 0} (told : ToldBySink K) (show : Show) (universes : ℕ)
+    (outlets used used' rest : List (Option K)) (results : List (Option SinkFault)) (published : List Command) (unsent : ℕ)
+    (session : Result Tally SessionFault) (s : Status) → used ≡ take universes outlets → length used ≡ universes
+    → AreDelivered told show used used' results published → TellsRun session results unsent s
+    → OutletsFinish told universes outlets (used' ++ rest) s
+outlets_finish told show universes outlets used used' rest results published unsent session s is count d tells ok place start within at =
+    let back = d.each place start (ap (λ l. slice_get l place) is ∙ (get_take universes place outlets within ∙ at)) in
+    let none : back.fault ≡ None = (ok_tells session results unsent s tells ok).1 place back.fault back.fault_is in
+    let kept = back.delivered.cause.kept none in
+    record {
+      new = back.new;
+      place_is = get_before used' rest place (omega (arith, within, count, d.same_places)) ∙ back.place_is;
+      writes_kept = kept.0;
+      wants_kept = kept.1;
+      handed_on = back.delivered.handed_on none;
+    }
 
 -- an outlet that was out of memory
 outlet_wanted : {K : Type 0} (told : ToldBySink K) (show : Show) (universes : ℕ)

@@ -1,6 +1,6 @@
 -- What a live run of the program comes to, and what its outlets have.
 use Rattle.std.specs.Prelude.{◌≡◌, ◌⊎◌, ◌≢◌, ℕ, ◌+◌, ◌-◌, ◌<◌, ◌≤◌, Bool, false, Option, Some, None, IfSome, Result, Ok, Err, IsOk}
-use Rattle.std.specs.Prelude.{List, ◌++◌, length, take, drop, slice_get}
+use Rattle.std.specs.Prelude.{List, [], ◌++◌, length, take, drop, slice_get}
 use Rattle.std.specs.Io.KnownBytes.{Appends}
 use Rattle.lx_base.specs.declared.TheConstants.{INPUT_BYTES}
 use Rattle.lx_io.specs.declared.sink.SinkFault.{SinkFault}
@@ -187,12 +187,27 @@ pub record ArePlayed {K : Type 0} (told : ToldBySink K) (universes : ℕ) (outle
   pub published : List Command
   pub got : HaveGot told show universes outlets outlets' published
 
+-- no write of an outlet failed, it was never out of memory, and all that was written is handed on
+pub record OutletFinishes {K : Type 0} (told : ToldBySink K) (outlets' : List (Option K)) (place : ℕ) (start : K) : Type 0 where
+  pub new : K
+  pub place_is : slice_get outlets' place ≡ Some (Some new)
+  pub writes_kept : told.faults new ≡ told.faults start
+  pub wants_kept : told.wants new ≡ told.wants start
+  pub handed_on : told.back new ≡ []
+
+-- with Ok that holds of each outlet in use
+abbrev pub OutletsFinish : {K : Type 0} → ToldBySink K → ℕ → (outlets outlets' : List (Option K)) → Status → Type 0
+OutletsFinish {K} told universes outlets outlets' s =
+    s ≡ status.Ok → (place : ℕ) (start : K) → place < universes → slice_get outlets place ≡ Some (Some start)
+    → OutletFinishes told outlets' place start
+
 -- Words that name no live run are answered with Usage, unless memory ran out, and nothing is read or written; in a live run
--- the outlets are as they were, or were played.
+-- the outlets are as they were, or were played, and with Ok none of them had a fault.
 abbrev pub KeepsOutlets : {I O K : Type 0} → ToldBySink K → Option Job → Status → (input input' : I)
     → (output output' : O) → (outlets outlets' : List (Option K)) → Type 0
 KeepsOutlets told (Some (Script (Live universes) form)) s input input' output output' outlets outlets' =
     (s ≢ status.Usage) × ((outlets' ≡ outlets) ⊎ ArePlayed told universes outlets outlets')
+    × (s ≢ status.Live) × OutletsFinish told universes outlets outlets' s
 KeepsOutlets told other s input input' output output' outlets outlets' =
     ((s ≡ status.Usage) ⊎ (s ≡ status.Memory)) × ((input' ≡ input) × ((output' ≡ output) × (outlets' ≡ outlets)))
 
