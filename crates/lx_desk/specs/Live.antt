@@ -1,5 +1,5 @@
 -- What a live run of the program comes to, and what its outlets have.
-use Rattle.std.specs.Prelude.{◌≡◌, ◌⊎◌, ◌≢◌, ℕ, ◌+◌, ◌-◌, ◌<◌, ◌≤◌, Bool, false, Option, Some, None, IfSome, Result, Ok, Err, IsOk}
+use Rattle.std.specs.Prelude.{◌≡◌, ◌⊎◌, ◌≢◌, ℕ, ◌+◌, ◌-◌, ◌<◌, ◌≤◌, Bool, false, Option, Some, None, IfSome, Result, Ok, Err, IsOk, IsErr}
 use Rattle.std.specs.Prelude.{List, [], ◌++◌, length, take, drop, slice_get}
 use Rattle.std.specs.Io.KnownBytes.{Appends}
 use Rattle.lx_base.specs.declared.TheConstants.{INPUT_BYTES}
@@ -31,6 +31,7 @@ use Rattle.lx_desk.specs.declared.desk.Status.{Status}
 use Rattle.lx_desk.specs.declared.desk.Status.TheVariants as status
 use Rattle.lx_desk.specs.Faults.{status_for}
 use Rattle.lx_desk.specs.Endings.{HasEnded}
+use Rattle.lx_desk.specs.Output.{NothingOfCut}
 
 -- The session of a script that is played live over a show, and of its first n lines. Where attempts may fail doesn't matter to it.
 abbrev pub live_session : Show → List (List ℕ) → List (Option ℕ) → Session DeskState
@@ -154,9 +155,17 @@ pub record LivesTaken {K : Type 0} (ample : Bool) (told : ToldBySink K) (univers
   pub served : AreServed told reading.show universes outlets outlets'
       (live_after reading.show (script_of bytes) failures (cut.lines - lines_read (lines_of bytes))).state.accepted
 
--- no line of a script was answered, and no outlet was written
+-- no reply to a script was written, and no outlet
 abbrev pub NoneLived : {K : Type 0} → Form → List ℕ → (held held' : Known) → (outlets outlets' : List (Option K)) → Type 0
 NoneLived form bytes held held' outlets outlets' = (outlets' ≡ outlets) × (IsOk (reads form bytes) → held' ≡ held)
+
+-- the same, and there was no script to play: the show is refused
+abbrev pub NoneOfRefused : {K : Type 0} → Form → List ℕ → (outlets outlets' : List (Option K)) → Type 0
+NoneOfRefused form bytes outlets outlets' = (outlets' ≡ outlets) × IsErr (reads form bytes)
+
+-- or the input was cut off within the lines of the show
+abbrev pub NoneOfCut : {K : Type 0} → List ℕ → (left held held' : Known) → (outlets outlets' : List (Option K)) → Type 0
+NoneOfCut bytes left held held' outlets outlets' = (outlets' ≡ outlets) × NothingOfCut bytes left held held'
 
 -- How the live run of a form over this many universes ended: with Ok as above; with ShowRefused as another job, and nothing in any outlet.
 -- Else it ended as another job with the status, and the outlets got nothing, or what was published of the commands that the lines which
@@ -168,13 +177,13 @@ HasLived ample status.Ok told universes form bytes left held held' outlets outle
 HasLived ample status.ShowRefused told universes form bytes left held held' outlets outlets' =
     HasEnded status.ShowRefused (Script (Live universes) form) bytes left held held' × (outlets' ≡ outlets)
 HasLived ample status.ReadFault told universes form bytes left held held' outlets outlets' =
-    HasEnded status.ReadFault (Script (Live universes) form) bytes left held held' × (NoneLived form bytes held held' outlets outlets'
+    HasEnded status.ReadFault (Script (Live universes) form) bytes left held held' × (NoneOfCut bytes left held held' outlets outlets'
     ⊎ LivesTaken ample told universes form bytes left held held' outlets outlets')
 HasLived ample status.InputTooLong told universes form bytes left held held' outlets outlets' =
-    HasEnded status.InputTooLong (Script (Live universes) form) bytes left held held' × (NoneLived form bytes held held' outlets outlets'
+    HasEnded status.InputTooLong (Script (Live universes) form) bytes left held held' × (NoneOfCut bytes left held held' outlets outlets'
     ⊎ LivesTaken ample told universes form bytes left held held' outlets outlets')
 HasLived ample status.WriteFault told universes form bytes left held held' outlets outlets' =
-    HasEnded status.WriteFault (Script (Live universes) form) bytes left held held' × (NoneLived form bytes held held' outlets outlets'
+    HasEnded status.WriteFault (Script (Live universes) form) bytes left held held' × (NoneOfRefused form bytes outlets outlets'
     ⊎ LivesInFront ample told universes form bytes held held' outlets outlets')
 HasLived ample status.Memory told universes form bytes left held held' outlets outlets' =
     HasEnded status.Memory (Script (Live universes) form) bytes left held held' × (NoneLived form bytes held held' outlets outlets'
