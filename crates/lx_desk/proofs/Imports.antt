@@ -7,7 +7,7 @@ pub use Rattle.lx_base.specs.Places.{EachAt}
 pub use Rattle.lx_base.specs.declared.TheConstants.{INPUT_BYTES, UNDO_DEPTH}
 pub use Rattle.lx_console.specs.ConsoleMeaning.{StandsFor}
 pub use Rattle.lx_crew.specs.declared.fault.OperatorFault.{OperatorFault}
-pub use Rattle.lx_desk.specs.Crew.{HasCrewCause, HasCrewEnded, IsLowest, KeepsPlaces, OperatorFailed, Serves, ServesNone, ServesOrWants, TellsCrew}
+pub use Rattle.lx_desk.specs.Crew.{HandsOn, HasCrewCause, HasCrewEnded, IsLowest, KeepsPlaces, OperatorFailed, Serves, ServesNone, ServesOrWants, TellsCrew}
 pub use Rattle.lx_desk.specs.Crew.{TakesNoneOrWants, TellsOperators, WantsCrew, WritesCrewFront, WritesFirstLines, WritesLines, WritesTranscript}
 pub use Rattle.lx_desk.specs.Endings.{AnswersWords, at_once, EndsJob, EndsScript, HasCauseOf, HasEnded, HasEndedBy, HasPlayed, is_live}
 pub use Rattle.lx_desk.specs.Endings.{WritesWhole}

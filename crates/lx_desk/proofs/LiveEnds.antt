@@ -276,14 +276,24 @@ module _ (ample : Bool) (form : Form) (universes : ℕ) {O K : Type 0} (told : T
   order_on status.WriteFault reads reads' reads'' P Q same f p = elim p [
     | inl failed ↦ inl failed
     | inr q ↦ inr (
-      record { reads_kept = q.0.reads_kept ∙ same; writes_kept = q.0.writes_kept; wants_kept = q.0.wants_kept },
+      record {
+        reads_kept = q.0.reads_kept ∙ same;
+        writes_kept = q.0.writes_kept;
+        wants_kept = q.0.wants_kept;
+        handed_on = q.0.handed_on;
+      },
       f (λ results unsent. HasFailedOutlet results) q.1,
     )
   ]
   order_on status.Memory reads reads' reads'' P Q same f p = elim p [
     | inl wanted ↦ inl wanted
     | inr q ↦ inr (
-      record { reads_kept = q.0.reads_kept ∙ same; writes_kept = q.0.writes_kept; wants_kept = q.0.wants_kept },
+      record {
+        reads_kept = q.0.reads_kept ∙ same;
+        writes_kept = q.0.writes_kept;
+        wants_kept = q.0.wants_kept;
+        handed_on = q.0.handed_on;
+      },
       f LacksMemory q.1,
     )
   ]

@@ -284,30 +284,31 @@ module _ {K : Type 0} (ample : Bool) (outlet_told : ToldBySink K) (show : Show) 
       → TellsRun session results n s
       → HasAnswered ample show published unsent console before bytes unread left held held' session
       → KeepsLimit before bytes session → HasSessionCause told_in told_out old new output output' session
+      → OnOk session (told_out.back output' ≡ [])
       → DecidesInOrder s (told_in.faults old.source.now) (told_in.faults new.source.now) told_out output output' outlets (used' ++ rest)
       (λ Told. PlaysToEnd ample Told outlet_told show universes (lines_of bytes) held held' outlets (used' ++ rest)
       × (before + length (bytes_wanted bytes) ≤ INPUT_BYTES))
   order_at told_in told_out old new output output' bytes unread left held held' console (Ok tally) status.WriteFault tells a limit
-      c = inr (
-        record { reads_kept = c.kept.0; writes_kept = c.kept.1; wants_kept = c.kept.2 },
+      c none = inr (
+        record { reads_kept = c.kept.0; writes_kept = c.kept.1; wants_kept = c.kept.2; handed_on = none },
         (to_end (λ told held_back. HasFailedOutlet told) bytes held held' console tally a tells, limit),
       )
-  order_at told_in told_out old new output output' bytes unread left held held' console (Ok tally) status.Memory tells a limit c =
+  order_at told_in told_out old new output output' bytes unread left held held' console (Ok tally) status.Memory tells a limit c none =
       inr (
-        record { reads_kept = c.kept.0; writes_kept = c.kept.1; wants_kept = c.kept.2 },
+        record { reads_kept = c.kept.0; writes_kept = c.kept.1; wants_kept = c.kept.2; handed_on = none },
         (to_end LacksMemory bytes held held' console tally a (subst (λ k. LacksMemory results k) counted tells), limit),
       )
-  order_at told_in told_out old new output output' bytes unread left held held' console (Ok tally) status.Ok tells a limit c = tt
+  order_at told_in told_out old new output output' bytes unread left held held' console (Ok tally) status.Ok tells a limit c none = tt
   order_at told_in told_out old new output output' bytes unread left held held' console (Ok tally) status.ShowRefused tells a limit
-      c = tt
-  order_at told_in told_out old new output output' bytes unread left held held' console (Ok tally) status.Usage tells a limit c =
+      c none = tt
+  order_at told_in told_out old new output output' bytes unread left held held' console (Ok tally) status.Usage tells a limit c none =
       tt
   order_at told_in told_out old new output output' bytes unread left held held' console (Ok tally) status.ReadFault tells a limit
-      c = tt
+      c none = tt
   order_at told_in told_out old new output output' bytes unread left held held' console (Ok tally) status.InputTooLong tells a
-      limit c = tt
-  order_at told_in told_out old new output output' bytes unread left held held' console (Ok tally) status.Live tells a limit c = tt
-  order_at told_in told_out old new output output' bytes unread left held held' console (Err fault) s tells a limit c =
+      limit c none = tt
+  order_at told_in told_out old new output output' bytes unread left held held' console (Ok tally) status.Live tells a limit c none = tt
+  order_at told_in told_out old new output output' bytes unread left held held' console (Err fault) s tells a limit c none =
       subst (λ (t : Status). DecidesInOrder t (told_in.faults old.source.now) (told_in.faults new.source.now) told_out output output' outlets
       (used' ++ rest) (λ Told. PlaysToEnd ample Told outlet_told show universes (lines_of bytes) held held' outlets (used' ++ rest)
       × (before + length (bytes_wanted bytes) ≤ INPUT_BYTES))) (sym tells)
@@ -318,12 +319,13 @@ module _ {K : Type 0} (ample : Bool) (outlet_told : ToldBySink K) (show : Show) 
       → TellsRun session results n s
       → IfSome o (λ bytes. HasAnswered ample show published unsent console before bytes unread left held held' session)
       → IfSome o (λ bytes. KeepsLimit before bytes session) → HasSessionCause told_in told_out old new output output' session
+      → OnOk session (told_out.back output' ≡ [])
       → IfSome o (λ bytes. DecidesInOrder s (told_in.faults old.source.now) (told_in.faults new.source.now) told_out output output' outlets
       (used' ++ rest) (λ Told. PlaysToEnd ample Told outlet_told show universes (lines_of bytes) held held' outlets (used' ++ rest)
       × (before + length (bytes_wanted bytes) ≤ INPUT_BYTES)))
-  in_order told_in told_out old new output output' o unread left held held' console session s tells a limit c =
+  in_order told_in told_out old new output output' o unread left held held' console session s tells a limit c none =
       both_known o _ _ _ a limit (λ bytes outcome keeps. order_at told_in told_out old new output output' bytes unread left held
-      held' console session s tells outcome keeps c)
+      held' console session s tells outcome keeps c none)
 
 -- a live run whose session had no fault is done where it tells none of the outlets
 pub run_finishes : {S O : Type 0} (told_in : ToldBySource S) (told_out : ToldBySink O) (old new : Lines S) (output output' : O)

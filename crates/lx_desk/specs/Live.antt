@@ -293,11 +293,12 @@ pub record PlaysToEnd {K : Type 0} (ample : Bool) (Told : List (Option SinkFault
   pub served : AreServed outlet_told show universes outlets outlets' (live_session show script failures).state.accepted
   pub told : Told served.got.results (length served.held_back)
 
--- no read failed, and the output had no fault
+-- no read failed, the output had no fault, and all that was written on it is handed on
 pub record NoneRose {O : Type 0} (reads reads' : ℕ) (told : ToldBySink O) (output output' : O) : Type 0 where
   pub reads_kept : reads' ≡ reads
   pub writes_kept : told.faults output' ≡ told.faults output
   pub wants_kept : told.wants output' ≡ told.wants output
+  pub handed_on : told.back output' ≡ []
 
 -- The faults of a live run are told in this order. The session's own comes first, which is one of the input or of the output. Then, where
 -- the session had none and came to its end, comes a write that failed in an outlet, and then that memory was short.

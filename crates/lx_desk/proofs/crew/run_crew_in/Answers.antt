@@ -84,3 +84,6 @@ returns-in-Ok-clause-later g c = omega (arith, c.in-Ok.ensures.cause.later, c.se
 
 pub returns-in-Err-clause-unread : goal.returns-in-Err-clause-unread
 returns-in-Err-clause-unread g c = λ is. inl refl
+
+pub returns-in-Err-clause-handed_on : goal.returns-in-Err-clause-handed_on
+returns-in-Err-clause-handed_on g c = λ which. inl (c.refuse.ensures.untouched which)

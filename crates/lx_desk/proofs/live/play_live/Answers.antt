@@ -56,7 +56,7 @@ returns-in-Ok-play_in-clause-order g c = λ ample stood.
     × (c.args.lines.now.taken + length (bytes_wanted bytes) ≤ INPUT_BYTES)))) same
     (in_order ample _ _ _ _ _ _ _ _ _ _ _ _ s.front s.front_len s.back p.unsent_is p.outlets_are g.S.Source g.O.Sink
     c.args.lines.now c.play_in.new.lines c.args.output.now c.play_in.new.output _ _ _ _ _ _ _ _
-    c.status_of_run.ensures p.session_is c.in-Ok-play_in.ensures.limit c.in-Ok-play_in.ensures.cause)
+    c.status_of_run.ensures p.session_is c.in-Ok-play_in.ensures.limit c.in-Ok-play_in.ensures.cause c.in-Ok-play_in.ensures.handed_on)
 
 pub returns-in-Ok-play_in-clause-finished : goal.returns-in-Ok-play_in-clause-finished
 returns-in-Ok-play_in-clause-finished g c =
