@@ -4,7 +4,7 @@ use Rattle.lx_desk.proofs.Imports.{List, [], ◌∷◌, ◌++◌, length, take, 
 use Rattle.lx_desk.proofs.Imports.{length-append, length-drop, take-append-drop, AllByRecursion, position_or_len, same_Some, slice_get_within, SinkFault, Rose}
 use Rattle.lx_desk.proofs.Imports.{AppendsFront, lines_of, Show, opened, Kept, ends_script, lines_wanted, Tally, OperatorFault, EachAt, Status, IsLowest}
 use Rattle.lx_desk.proofs.Imports.{WritesTranscript, WritesLines, Serves, WritesFirstLines, KeepsPlaces, OperatorFailed, TellsOperators, TellsCrew, Finishes}
-use Rattle.lx_desk.proofs.Imports.{Bool, HasWanted, WantsCrew, WantsMemory, ToldBySink, ToldBySource}
+use Rattle.lx_desk.proofs.Imports.{Bool, HandsOn, HasWanted, TakesNoneOrWants, WantsCrew, WantsMemory, ToldBySink, ToldBySource}
 use Rattle.std.specs.Io.KnownBytes.{Appends}
 use Rattle.std.proofs.KnownBytes.{Appends-nil}
 use Rattle.lx_io.specs.declared.sink.SinkFault.TheVariants as sinks
@@ -297,6 +297,28 @@ pub crew_wants : {K : Type 0} (told_out : ToldBySink K) (sink sink' : K) (output
 crew_wants told_out sink sink' None told s tells c is = absurd (subst (λ (t : Status). TellsOperators told t) is tells)
 crew_wants told_out sink sink' (Some sinks.Failed) told s tells c is = let odd : status.WriteFault ≡ status.Memory = sym tells ∙ is in cc
 crew_wants told_out sink sink' (Some sinks.Memory) told s tells c is = elim (c.memory refl) [ inl odd ↦ cc | inr rose ↦ inr rose ]
+
+pub crew_takes : {K S : Type 0} (told_out : ToldBySink K) (sink sink' : K) (operators operators' : List (Option S))
+    (output : Option SinkFault) (told : List (Option OperatorFault)) (s : Status) → TellsCrew output told s
+    → OutputCause told_out sink sink' None output → TakesNoneOrWants told_out sink sink' operators operators' s
+crew_takes told_out sink sink' operators operators' None told s tells c is = absurd (subst (λ (t : Status). TellsOperators told t) is tells)
+crew_takes told_out sink sink' operators operators' (Some sinks.Failed) told s tells c is =
+    let odd : status.WriteFault ≡ status.Memory = sym tells ∙ is in cc
+crew_takes told_out sink sink' operators operators' (Some sinks.Memory) told s tells c is =
+    elim (c.memory refl) [ inl odd ↦ cc | inr rose ↦ inr rose ]
+
+pub crew_hands_on : {K : Type 0} (told_out : ToldBySink K) (sink sink' : K) (output : Option SinkFault) (told : List (Option OperatorFault))
+    (s : Status) → TellsCrew output told s → OutputCause told_out sink sink' None output → (output ≡ None → told_out.back sink' ≡ [])
+    → HandsOn told_out sink sink' s
+crew_hands_on told_out sink sink' None told s tells c none which = let kept = c.kept refl in inr (kept.1, (kept.2, none refl))
+crew_hands_on told_out sink sink' (Some sinks.Failed) told s tells c none which = elim which [
+  | inl read ↦ let odd : status.WriteFault ≡ status.ReadFault = sym tells ∙ read in cc
+  | inr long ↦ let odd : status.WriteFault ≡ status.InputTooLong = sym tells ∙ long in cc
+]
+crew_hands_on told_out sink sink' (Some sinks.Memory) told s tells c none which = elim which [
+  | inl read ↦ let odd : status.Memory ≡ status.ReadFault = sym tells ∙ read in cc
+  | inr long ↦ let odd : status.Memory ≡ status.InputTooLong = sym tells ∙ long in cc
+]
 
 -- what wanted memory of one heap or of the output did so of the two heaps and the output
 pub as_crew : {K : Type 0} (told : ToldBySink K) (before after queues queues' : ℕ) (output output' : K) (s : Status)

@@ -9,10 +9,17 @@ use Rattle.lx_desk.proofs.Imports.{WritesPrefix, RepliesToTaken, RefusedBy, Ends
 use Rattle.lx_desk.proofs.Imports.{AreServed, PlaysInFront, PlaysTaken, HasPlayedLive, PlaysWhole, LivesInFront, LivesTaken, HasLived, PlaysToEnd, LivesToEnd}
 use Rattle.lx_desk.proofs.Imports.{LacksMemory, HasFailedOutlet, DecidesInOrder, HasWanted, ToldBySink, ToldBySource}
 use Rattle.lx_desk.specs.declared.desk.Status.TheVariants as status
+use Rattle.lx_desk.proofs.Imports.{Check, IsErr, NothingOfCut, status_kept}
+use Rattle.lx_desk.proofs.Inputs.{check_tells, kept_is, refusal_cut}
 use Rattle.lx_desk.proofs.Inputs.{Says, means_of, session_long, session_fits, refusal_isnt_ok, front_nothing, if_known, both_known, over_loaded}
 use Rattle.lx_desk.proofs.Inputs.{if_both, fed_behind, wanted_read, script_over}
 use Rattle.lx_desk.proofs.AnyFailures.{each_allowed}
 use Rattle.lx_desk.proofs.Endings.{refusal_ends, refusal_ended}
+
+-- a fault of a show that isn't one of its text is told by another status
+no_write : (fault : ShowFault) → status_kept fault status.WriteFault → ⊥
+no_write fault kept = kept_is fault status.WriteFault (λ f t. t ≡ status.WriteFault → ⊥) kept (λ is. absurd cc) (λ is. absurd cc)
+    (λ is. absurd cc) refl
 
 -- Of a show whose levels are read in this form, for this many universes, in a run whose memory was ample, or may not have been.
 module _ (ample : Bool) (form : Form) (universes : ℕ) where
@@ -165,9 +172,16 @@ module _ (ample : Bool) (form : Form) (universes : ℕ) where
   live_ended told_in told a b loaded o rest h h' outlets outlets' status.Live is none r p =
       over_loaded form told_in a b loaded o (λ y. ⊥) _ is r p (λ x y raws took shown text script q. absurd q)
 
+  -- why no line of a script was answered, by the status
+  abbrev Unanswered : Status → List ℕ → (rest h h' : Option (List ℕ)) → Type 0
+  Unanswered status.ReadFault x rest h h' = NothingOfCut x rest h h'
+  Unanswered status.InputTooLong x rest h h' = NothingOfCut x rest h h'
+  Unanswered status.WriteFault x rest h h' = IsErr (reads form x)
+  Unanswered other x rest h h' = IsOk (reads form x) → h' ≡ h
+
   refused_at : {K : Type 0} (told : ToldBySink K) (x : List ℕ) (rest h h' : Option (List ℕ))
       (outlets : List (Option K)) (fault : ShowFault) (s : Status)
-      → RefusedBy h h' fault s → HasEnded s (Script (Live universes) form) x rest h h' → (IsOk (reads form x) → h' ≡ h)
+      → RefusedBy h h' fault s → HasEnded s (Script (Live universes) form) x rest h h' → Unanswered s x rest h h'
       → HasLived ample s told universes form x rest h h' outlets outlets
   refused_at told x rest h h' outlets fault status.Ok by e none = refusal_isnt_ok h h' fault status.Ok _ by refl
   refused_at told x rest h h' outlets fault status.ShowRefused by e none = (e, refl)
@@ -187,6 +201,22 @@ module _ (ample : Bool) (form : Form) (universes : ℕ) where
   all_none None h h' kept = tt
   all_none (Some x) h h' kept = λ ok. kept
 
+  -- of one that couldn't be read on, it was cut off; and a write failed only of the line of one that is refused
+  cut_off : {S : Type 0} (told : ToldBySource S) (a b : Lines S) (o h h' : Option (List ℕ)) (fault : ShowFault) (s : Status)
+      → unread told a ≡ o → a.taken ≡ 0 → Says form told a b fault → RefusedBy h h' fault s
+      → (s ≡ status.ReadFault) ⊎ (s ≡ status.InputTooLong) → IfSome o (λ x. NothingOfCut x (told.left b.source.now) h h')
+  cut_off told a b o h h' fault s is none says by cut =
+      refusal_cut form false (Check form) ((check_tells form).over) told a b o h h' fault s is none says by cut
+
+  isnt_shown : {S : Type 0} (told : ToldBySource S) (a b : Lines S) (o h h' : Option (List ℕ)) (fault : ShowFault)
+      → unread told a ≡ o → Says form told a b fault → RefusedBy h h' fault status.WriteFault → IfSome o (λ x. IsErr (reads form x))
+  isnt_shown told a b o h h' fault is says by = elim by [
+    | inl text ↦ subst (λ (v : Option (List ℕ)). IfSome v (λ x. IsErr (reads form x))) is
+        (if_known (unread told a) _ _ (means_of form told a b fault text.text text.told says).text
+        (λ x e. subst (λ (r : Result Reading TextFault). IsErr r) (sym e) refl))
+    | inr other ↦ absurd (no_write fault other.is)
+  ]
+
   unanswered : {S : Type 0} (told : ToldBySource S) (a b : Lines S) (o h h' : Option (List ℕ)) (fault : ShowFault) (s : Status)
       → unread told a ≡ o → Says form told a b fault → RefusedBy h h' fault s → IfSome o (λ x. IsOk (reads form x) → h' ≡ h)
   unanswered told a b o h h' fault s is says by = elim by [
@@ -195,6 +225,20 @@ module _ (ample : Bool) (form : Form) (universes : ℕ) where
     | inr other ↦ all_none o h h' other.kept
   ]
 
+  by_status : {S : Type 0} (told : ToldBySource S) (a b : Lines S) (o h h' : Option (List ℕ)) (fault : ShowFault) (s : Status)
+      → unread told a ≡ o → a.taken ≡ 0 → Says form told a b fault → RefusedBy h h' fault s
+      → IfSome o (λ x. Unanswered s x (told.left b.source.now) h h')
+  by_status told a b o h h' fault status.ReadFault is none says by =
+      cut_off told a b o h h' fault status.ReadFault is none says by (inl refl)
+  by_status told a b o h h' fault status.InputTooLong is none says by =
+      cut_off told a b o h h' fault status.InputTooLong is none says by (inr refl)
+  by_status told a b o h h' fault status.WriteFault is none says by = isnt_shown told a b o h h' fault is says by
+  by_status told a b o h h' fault status.Ok is none says by = unanswered told a b o h h' fault status.Ok is says by
+  by_status told a b o h h' fault status.ShowRefused is none says by = unanswered told a b o h h' fault status.ShowRefused is says by
+  by_status told a b o h h' fault status.Usage is none says by = unanswered told a b o h h' fault status.Usage is says by
+  by_status told a b o h h' fault status.Memory is none says by = unanswered told a b o h h' fault status.Memory is says by
+  by_status told a b o h h' fault status.Live is none says by = unanswered told a b o h h' fault status.Live is says by
+
   -- a show that isn't read
   pub refused_lived : {S K : Type 0} (told_in : ToldBySource S) (told : ToldBySink K) (a b : Lines S)
       (o h h' : Option (List ℕ)) (outlets : List (Option K)) (fault : ShowFault) (s : Status)
@@ -202,7 +246,7 @@ module _ (ample : Bool) (form : Form) (universes : ℕ) where
       → IfSome o (λ x. HasLived ample s told universes form x (told_in.left b.source.now) h h' outlets outlets)
   refused_lived told_in told a b o h h' outlets fault s is none says by =
       both_known o _ _ _ (refusal_ended false form (Script (Live universes) form) (script_over form (Live universes)) told_in a b o h h' fault s is none says by)
-      (unanswered told_in a b o h h' fault s is says by)
+      (by_status told_in a b o h h' fault s is none says by)
       (λ x e unread. refused_at told x (told_in.left b.source.now) h h' outlets fault s by e unread)
 
 -- In which order the faults of a live run are told, over a show that was read.
@@ -232,14 +276,24 @@ module _ (ample : Bool) (form : Form) (universes : ℕ) {O K : Type 0} (told : T
   order_on status.WriteFault reads reads' reads'' P Q same f p = elim p [
     | inl failed ↦ inl failed
     | inr q ↦ inr (
-      record { reads_kept = q.0.reads_kept ∙ same; writes_kept = q.0.writes_kept; wants_kept = q.0.wants_kept },
+      record {
+        reads_kept = q.0.reads_kept ∙ same;
+        writes_kept = q.0.writes_kept;
+        wants_kept = q.0.wants_kept;
+        handed_on = q.0.handed_on;
+      },
       f (λ results unsent. HasFailedOutlet results) q.1,
     )
   ]
   order_on status.Memory reads reads' reads'' P Q same f p = elim p [
     | inl wanted ↦ inl wanted
     | inr q ↦ inr (
-      record { reads_kept = q.0.reads_kept ∙ same; writes_kept = q.0.writes_kept; wants_kept = q.0.wants_kept },
+      record {
+        reads_kept = q.0.reads_kept ∙ same;
+        writes_kept = q.0.writes_kept;
+        wants_kept = q.0.wants_kept;
+        handed_on = q.0.handed_on;
+      },
       f LacksMemory q.1,
     )
   ]

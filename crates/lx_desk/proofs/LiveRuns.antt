@@ -8,7 +8,7 @@ use Rattle.lx_desk.proofs.Imports.{HasSessionCause, IsFull, Status, status_for, 
 use Rattle.lx_desk.proofs.Imports.{AreServed, PlaysInFront, PlaysTaken, HasPlayedLive, ArePlayed, OutletFailed, PlaysToEnd, LacksMemory, HasFailedOutlet}
 use Rattle.lx_desk.proofs.Imports.{DecidesInOrder, Finishes, HasLiveCause, TellsOutlets, TellsRun, Appends, AppendsFront, ToldBySink, ToldBySource}
 use Rattle.std.specs.Prelude.{◌&&◌}
-use Rattle.lx_desk.proofs.Imports.{Rose, HasStood, OutletWanted, WantsLive, WantsMemory}
+use Rattle.lx_desk.proofs.Imports.{Rose, HasStood, OutletsFinish, OutletWanted, WantsLive, WantsMemory}
 use Rattle.std.proofs.lemmas.Bool.{cases_lt}
 use Rattle.lx_io.specs.Causes.{one_more}
 use Rattle.lx_io.specs.declared.sink.SinkFault.TheVariants as sinks
@@ -284,30 +284,31 @@ module _ {K : Type 0} (ample : Bool) (outlet_told : ToldBySink K) (show : Show) 
       → TellsRun session results n s
       → HasAnswered ample show published unsent console before bytes unread left held held' session
       → KeepsLimit before bytes session → HasSessionCause told_in told_out old new output output' session
+      → OnOk session (told_out.back output' ≡ [])
       → DecidesInOrder s (told_in.faults old.source.now) (told_in.faults new.source.now) told_out output output' outlets (used' ++ rest)
       (λ Told. PlaysToEnd ample Told outlet_told show universes (lines_of bytes) held held' outlets (used' ++ rest)
       × (before + length (bytes_wanted bytes) ≤ INPUT_BYTES))
   order_at told_in told_out old new output output' bytes unread left held held' console (Ok tally) status.WriteFault tells a limit
-      c = inr (
-        record { reads_kept = c.kept.0; writes_kept = c.kept.1; wants_kept = c.kept.2 },
+      c none = inr (
+        record { reads_kept = c.kept.0; writes_kept = c.kept.1; wants_kept = c.kept.2; handed_on = none },
         (to_end (λ told held_back. HasFailedOutlet told) bytes held held' console tally a tells, limit),
       )
-  order_at told_in told_out old new output output' bytes unread left held held' console (Ok tally) status.Memory tells a limit c =
+  order_at told_in told_out old new output output' bytes unread left held held' console (Ok tally) status.Memory tells a limit c none =
       inr (
-        record { reads_kept = c.kept.0; writes_kept = c.kept.1; wants_kept = c.kept.2 },
+        record { reads_kept = c.kept.0; writes_kept = c.kept.1; wants_kept = c.kept.2; handed_on = none },
         (to_end LacksMemory bytes held held' console tally a (subst (λ k. LacksMemory results k) counted tells), limit),
       )
-  order_at told_in told_out old new output output' bytes unread left held held' console (Ok tally) status.Ok tells a limit c = tt
+  order_at told_in told_out old new output output' bytes unread left held held' console (Ok tally) status.Ok tells a limit c none = tt
   order_at told_in told_out old new output output' bytes unread left held held' console (Ok tally) status.ShowRefused tells a limit
-      c = tt
-  order_at told_in told_out old new output output' bytes unread left held held' console (Ok tally) status.Usage tells a limit c =
+      c none = tt
+  order_at told_in told_out old new output output' bytes unread left held held' console (Ok tally) status.Usage tells a limit c none =
       tt
   order_at told_in told_out old new output output' bytes unread left held held' console (Ok tally) status.ReadFault tells a limit
-      c = tt
+      c none = tt
   order_at told_in told_out old new output output' bytes unread left held held' console (Ok tally) status.InputTooLong tells a
-      limit c = tt
-  order_at told_in told_out old new output output' bytes unread left held held' console (Ok tally) status.Live tells a limit c = tt
-  order_at told_in told_out old new output output' bytes unread left held held' console (Err fault) s tells a limit c =
+      limit c none = tt
+  order_at told_in told_out old new output output' bytes unread left held held' console (Ok tally) status.Live tells a limit c none = tt
+  order_at told_in told_out old new output output' bytes unread left held held' console (Err fault) s tells a limit c none =
       subst (λ (t : Status). DecidesInOrder t (told_in.faults old.source.now) (told_in.faults new.source.now) told_out output output' outlets
       (used' ++ rest) (λ Told. PlaysToEnd ample Told outlet_told show universes (lines_of bytes) held held' outlets (used' ++ rest)
       × (before + length (bytes_wanted bytes) ≤ INPUT_BYTES))) (sym tells)
@@ -318,12 +319,13 @@ module _ {K : Type 0} (ample : Bool) (outlet_told : ToldBySink K) (show : Show) 
       → TellsRun session results n s
       → IfSome o (λ bytes. HasAnswered ample show published unsent console before bytes unread left held held' session)
       → IfSome o (λ bytes. KeepsLimit before bytes session) → HasSessionCause told_in told_out old new output output' session
+      → OnOk session (told_out.back output' ≡ [])
       → IfSome o (λ bytes. DecidesInOrder s (told_in.faults old.source.now) (told_in.faults new.source.now) told_out output output' outlets
       (used' ++ rest) (λ Told. PlaysToEnd ample Told outlet_told show universes (lines_of bytes) held held' outlets (used' ++ rest)
       × (before + length (bytes_wanted bytes) ≤ INPUT_BYTES)))
-  in_order told_in told_out old new output output' o unread left held held' console session s tells a limit c =
+  in_order told_in told_out old new output output' o unread left held held' console session s tells a limit c none =
       both_known o _ _ _ a limit (λ bytes outcome keeps. order_at told_in told_out old new output output' bytes unread left held
-      held' console session s tells outcome keeps c)
+      held' console session s tells outcome keeps c none)
 
 -- a live run whose session had no fault is done where it tells none of the outlets
 pub run_finishes : {S O : Type 0} (told_in : ToldBySource S) (told_out : ToldBySink O) (old new : Lines S) (output output' : O)
@@ -429,6 +431,40 @@ not_usage (Err faults.ReadFault) results unsent s tells = λ e. let bad : status
 not_usage (Err faults.WriteFault) results unsent s tells = λ e. let bad : status.WriteFault ≡ status.Usage = sym tells ∙ e in absurd cc
 not_usage (Err faults.InputTooLong) results unsent s tells = λ e. let bad : status.InputTooLong ≡ status.Usage = sym tells ∙ e in absurd cc
 not_usage (Err faults.Memory) results unsent s tells = λ e. let bad : status.Memory ≡ status.Usage = sym tells ∙ e in absurd cc
+
+pub not_live : (session : Result Tally SessionFault) (results : List (Option SinkFault)) (unsent : ℕ) (s : Status)
+    → TellsRun session results unsent s → s ≢ status.Live
+not_live (Ok tally) results unsent s tells = λ e. subst (λ (t : Status). TellsOutlets results unsent t) e tells
+not_live (Err faults.ReadFault) results unsent s tells = λ e. let bad : status.ReadFault ≡ status.Live = sym tells ∙ e in absurd cc
+not_live (Err faults.WriteFault) results unsent s tells = λ e. let bad : status.WriteFault ≡ status.Live = sym tells ∙ e in absurd cc
+not_live (Err faults.InputTooLong) results unsent s tells = λ e. let bad : status.InputTooLong ≡ status.Live = sym tells ∙ e in absurd cc
+not_live (Err faults.Memory) results unsent s tells = λ e. let bad : status.Memory ≡ status.Live = sym tells ∙ e in absurd cc
+
+-- Ok tells of no fault of an outlet
+ok_tells : (session : Result Tally SessionFault) (results : List (Option SinkFault)) (unsent : ℕ) (s : Status)
+    → TellsRun session results unsent s → s ≡ status.Ok → TellsOutlets results unsent status.Ok
+ok_tells (Ok tally) results unsent s tells ok = subst (λ (t : Status). TellsOutlets results unsent t) ok tells
+ok_tells (Err faults.ReadFault) results unsent s tells ok = let bad : status.ReadFault ≡ status.Ok = sym tells ∙ ok in absurd cc
+ok_tells (Err faults.WriteFault) results unsent s tells ok = let bad : status.WriteFault ≡ status.Ok = sym tells ∙ ok in absurd cc
+ok_tells (Err faults.InputTooLong) results unsent s tells ok = let bad : status.InputTooLong ≡ status.Ok = sym tells ∙ ok in absurd cc
+ok_tells (Err faults.Memory) results unsent s tells ok = let bad : status.Memory ≡ status.Ok = sym tells ∙ ok in absurd cc
+
+pub outlets_finish : {K : Type 0} (told : ToldBySink K) (show : Show) (universes : ℕ)
+    (outlets used used' rest : List (Option K)) (results : List (Option SinkFault)) (published : List Command) (unsent : ℕ)
+    (session : Result Tally SessionFault) (s : Status) → used ≡ take universes outlets → length used ≡ universes
+    → AreDelivered told show used used' results published → TellsRun session results unsent s
+    → OutletsFinish told universes outlets (used' ++ rest) s
+outlets_finish told show universes outlets used used' rest results published unsent session s is count d tells ok place start within at =
+    let back = d.each place start (ap (λ l. slice_get l place) is ∙ (get_take universes place outlets within ∙ at)) in
+    let none : back.fault ≡ None = (ok_tells session results unsent s tells ok).1 place back.fault back.fault_is in
+    let kept = back.delivered.cause.kept none in
+    record {
+      new = back.new;
+      place_is = get_before used' rest place (omega (arith, within, count, d.same_places)) ∙ back.place_is;
+      writes_kept = kept.0;
+      wants_kept = kept.1;
+      handed_on = back.delivered.handed_on none;
+    }
 
 -- an outlet that was out of memory
 outlet_wanted : {K : Type 0} (told : ToldBySink K) (show : Show) (universes : ℕ)

@@ -175,3 +175,16 @@ CrewRunsShort told refusals refusals' queues queues' output output' =
 abbrev pub WantsCrew : {K : Type 0} → ToldBySink K → (refusals refusals' queues queues' : ℕ) → (output output' : K) → Status → Type 0
 WantsCrew told refusals refusals' queues queues' output output' s =
     s ≡ status.Memory → CrewRunsShort told refusals refusals' queues queues' output output'
+
+-- Out of memory: before a line of any operator was taken, or the output itself was.
+abbrev pub TakesNoneOrWants : {K S : Type 0} → ToldBySink K → (output output' : K) → (operators operators' : List (Option S)) → Status → Type 0
+TakesNoneOrWants told output output' operators operators' s =
+    s ≡ status.Memory → (operators' ≡ operators) ⊎ Rose (told.wants output) (told.wants output')
+
+-- After a fault of the input nothing was written; and where an operator's is told, the output had none, and all that was written is
+-- handed on.
+abbrev pub HandsOn : {K : Type 0} → ToldBySink K → (output output' : K) → Status → Type 0
+HandsOn told output output' s =
+    (s ≡ status.ReadFault) ⊎ (s ≡ status.InputTooLong)
+    → (output' ≡ output) ⊎ ((told.faults output' ≡ told.faults output)
+    × ((told.wants output' ≡ told.wants output) × (told.back output' ≡ [])))

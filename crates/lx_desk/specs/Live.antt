@@ -1,6 +1,6 @@
 -- What a live run of the program comes to, and what its outlets have.
-use Rattle.std.specs.Prelude.{◌≡◌, ◌⊎◌, ◌≢◌, ℕ, ◌+◌, ◌-◌, ◌<◌, ◌≤◌, Bool, false, Option, Some, None, IfSome, Result, Ok, Err, IsOk}
-use Rattle.std.specs.Prelude.{List, ◌++◌, length, take, drop, slice_get}
+use Rattle.std.specs.Prelude.{◌≡◌, ◌⊎◌, ◌≢◌, ℕ, ◌+◌, ◌-◌, ◌<◌, ◌≤◌, Bool, false, Option, Some, None, IfSome, Result, Ok, Err, IsOk, IsErr}
+use Rattle.std.specs.Prelude.{List, [], ◌++◌, length, take, drop, slice_get}
 use Rattle.std.specs.Io.KnownBytes.{Appends}
 use Rattle.lx_base.specs.declared.TheConstants.{INPUT_BYTES}
 use Rattle.lx_io.specs.declared.sink.SinkFault.{SinkFault}
@@ -31,6 +31,7 @@ use Rattle.lx_desk.specs.declared.desk.Status.{Status}
 use Rattle.lx_desk.specs.declared.desk.Status.TheVariants as status
 use Rattle.lx_desk.specs.Faults.{status_for}
 use Rattle.lx_desk.specs.Endings.{HasEnded}
+use Rattle.lx_desk.specs.Output.{NothingOfCut}
 
 -- The session of a script that is played live over a show, and of its first n lines. Where attempts may fail doesn't matter to it.
 abbrev pub live_session : Show → List (List ℕ) → List (Option ℕ) → Session DeskState
@@ -154,9 +155,17 @@ pub record LivesTaken {K : Type 0} (ample : Bool) (told : ToldBySink K) (univers
   pub served : AreServed told reading.show universes outlets outlets'
       (live_after reading.show (script_of bytes) failures (cut.lines - lines_read (lines_of bytes))).state.accepted
 
--- no line of a script was answered, and no outlet was written
+-- no reply to a script was written, and no outlet
 abbrev pub NoneLived : {K : Type 0} → Form → List ℕ → (held held' : Known) → (outlets outlets' : List (Option K)) → Type 0
 NoneLived form bytes held held' outlets outlets' = (outlets' ≡ outlets) × (IsOk (reads form bytes) → held' ≡ held)
+
+-- the same, and there was no script to play: the show is refused
+abbrev pub NoneOfRefused : {K : Type 0} → Form → List ℕ → (outlets outlets' : List (Option K)) → Type 0
+NoneOfRefused form bytes outlets outlets' = (outlets' ≡ outlets) × IsErr (reads form bytes)
+
+-- or the input was cut off within the lines of the show
+abbrev pub NoneOfCut : {K : Type 0} → List ℕ → (left held held' : Known) → (outlets outlets' : List (Option K)) → Type 0
+NoneOfCut bytes left held held' outlets outlets' = (outlets' ≡ outlets) × NothingOfCut bytes left held held'
 
 -- How the live run of a form over this many universes ended: with Ok as above; with ShowRefused as another job, and nothing in any outlet.
 -- Else it ended as another job with the status, and the outlets got nothing, or what was published of the commands that the lines which
@@ -168,13 +177,13 @@ HasLived ample status.Ok told universes form bytes left held held' outlets outle
 HasLived ample status.ShowRefused told universes form bytes left held held' outlets outlets' =
     HasEnded status.ShowRefused (Script (Live universes) form) bytes left held held' × (outlets' ≡ outlets)
 HasLived ample status.ReadFault told universes form bytes left held held' outlets outlets' =
-    HasEnded status.ReadFault (Script (Live universes) form) bytes left held held' × (NoneLived form bytes held held' outlets outlets'
+    HasEnded status.ReadFault (Script (Live universes) form) bytes left held held' × (NoneOfCut bytes left held held' outlets outlets'
     ⊎ LivesTaken ample told universes form bytes left held held' outlets outlets')
 HasLived ample status.InputTooLong told universes form bytes left held held' outlets outlets' =
-    HasEnded status.InputTooLong (Script (Live universes) form) bytes left held held' × (NoneLived form bytes held held' outlets outlets'
+    HasEnded status.InputTooLong (Script (Live universes) form) bytes left held held' × (NoneOfCut bytes left held held' outlets outlets'
     ⊎ LivesTaken ample told universes form bytes left held held' outlets outlets')
 HasLived ample status.WriteFault told universes form bytes left held held' outlets outlets' =
-    HasEnded status.WriteFault (Script (Live universes) form) bytes left held held' × (NoneLived form bytes held held' outlets outlets'
+    HasEnded status.WriteFault (Script (Live universes) form) bytes left held held' × (NoneOfRefused form bytes outlets outlets'
     ⊎ LivesInFront ample told universes form bytes held held' outlets outlets')
 HasLived ample status.Memory told universes form bytes left held held' outlets outlets' =
     HasEnded status.Memory (Script (Live universes) form) bytes left held held' × (NoneLived form bytes held held' outlets outlets'
@@ -187,12 +196,27 @@ pub record ArePlayed {K : Type 0} (told : ToldBySink K) (universes : ℕ) (outle
   pub published : List Command
   pub got : HaveGot told show universes outlets outlets' published
 
+-- no write of an outlet failed, it was never out of memory, and all that was written is handed on
+pub record OutletFinishes {K : Type 0} (told : ToldBySink K) (outlets' : List (Option K)) (place : ℕ) (start : K) : Type 0 where
+  pub new : K
+  pub place_is : slice_get outlets' place ≡ Some (Some new)
+  pub writes_kept : told.faults new ≡ told.faults start
+  pub wants_kept : told.wants new ≡ told.wants start
+  pub handed_on : told.back new ≡ []
+
+-- with Ok that holds of each outlet in use
+abbrev pub OutletsFinish : {K : Type 0} → ToldBySink K → ℕ → (outlets outlets' : List (Option K)) → Status → Type 0
+OutletsFinish {K} told universes outlets outlets' s =
+    s ≡ status.Ok → (place : ℕ) (start : K) → place < universes → slice_get outlets place ≡ Some (Some start)
+    → OutletFinishes told outlets' place start
+
 -- Words that name no live run are answered with Usage, unless memory ran out, and nothing is read or written; in a live run
--- the outlets are as they were, or were played.
+-- the outlets are as they were, or were played, and with Ok none of them had a fault.
 abbrev pub KeepsOutlets : {I O K : Type 0} → ToldBySink K → Option Job → Status → (input input' : I)
     → (output output' : O) → (outlets outlets' : List (Option K)) → Type 0
 KeepsOutlets told (Some (Script (Live universes) form)) s input input' output output' outlets outlets' =
     (s ≢ status.Usage) × ((outlets' ≡ outlets) ⊎ ArePlayed told universes outlets outlets')
+    × (s ≢ status.Live) × OutletsFinish told universes outlets outlets' s
 KeepsOutlets told other s input input' output output' outlets outlets' =
     ((s ≡ status.Usage) ⊎ (s ≡ status.Memory)) × ((input' ≡ input) × ((output' ≡ output) × (outlets' ≡ outlets)))
 
@@ -269,11 +293,12 @@ pub record PlaysToEnd {K : Type 0} (ample : Bool) (Told : List (Option SinkFault
   pub served : AreServed outlet_told show universes outlets outlets' (live_session show script failures).state.accepted
   pub told : Told served.got.results (length served.held_back)
 
--- no read failed, and the output had no fault
+-- no read failed, the output had no fault, and all that was written on it is handed on
 pub record NoneRose {O : Type 0} (reads reads' : ℕ) (told : ToldBySink O) (output output' : O) : Type 0 where
   pub reads_kept : reads' ≡ reads
   pub writes_kept : told.faults output' ≡ told.faults output
   pub wants_kept : told.wants output' ≡ told.wants output
+  pub handed_on : told.back output' ≡ []
 
 -- The faults of a live run are told in this order. The session's own comes first, which is one of the input or of the output. Then, where
 -- the session had none and came to its end, comes a write that failed in an outlet, and then that memory was short.

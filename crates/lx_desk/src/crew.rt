@@ -7,8 +7,8 @@ ghost use Rattle.lx_spec.specs.declared.Job.TheVariants.{Crew};
 ghost use Rattle.lx_spec.specs.Reading.{reads};
 ghost use Rattle.lx_base.specs.Places.{EachAt};
 ghost use Rattle.lx_session.specs.Spared.{HasStood};
-ghost use Rattle.lx_desk.specs.Crew.{HasCrewCause, HasCrewEnded, KeepsOperators, KeepsPlaces, OperatorFailed, ServesOrWants};
-ghost use Rattle.lx_desk.specs.Crew.{TellsCrew, TellsOperators, WantsCrew, WritesCrewFront, WritesFirstLines};
+ghost use Rattle.lx_desk.specs.Crew.{HandsOn, HasCrewCause, HasCrewEnded, KeepsOperators, KeepsPlaces, OperatorFailed, ServesOrWants};
+ghost use Rattle.lx_desk.specs.Crew.{TakesNoneOrWants, TellsCrew, TellsOperators, WantsCrew, WritesCrewFront, WritesFirstLines};
 ghost use Rattle.lx_desk.specs.Finished.{ByMemory, Finishes, HasWanted};
 
 use crate::desk::Status;
@@ -31,8 +31,9 @@ use std::thread::Threads;
 /// operator and its number among that operator's lines, and then its replies. Which operator comes next isn't said.
 ///
 /// A fault of an operator costs no line of another. The fault of the output decides the status first, and then that of the
-/// lowest operator that had one. The answer is never Live. With Ok and ShowRefused no read of the input and no write failed, and
-/// all that was written is handed on; Memory is told only before anything is written, or where the output itself is out of memory.
+/// lowest operator that had one; where that is told, all that was written is handed on. The answer is never Live. With Ok and ShowRefused no read of the input and no write failed, and
+/// all that was written is handed on; Memory is told only before anything is written and any operator's source read, or where the output
+/// itself is out of memory.
 pub fn run_crew<R: Threads + Wait + Sync, I: Source, S: Source + Send + Drop, K: Sink + Send>(
     rt: &R,
     alloc: Global,
@@ -56,6 +57,8 @@ pub fn run_crew<R: Threads + Wait + Sync, I: Source, S: Source + Send + Drop, K:
         count operators.old operators.new }
     ensures finished { Finishes (I.faults input.old) (I.faults input.new) K.Sink output.old output.new result }
     ensures memory { HasWanted K.Sink output.old output.new result }
+    ensures unread { TakesNoneOrWants K.Sink output.old output.new operators.old operators.new result }
+    ensures handed_on { HandsOn K.Sink output.old output.new result }
 {
     run_crew_in(
         rt,
@@ -107,6 +110,8 @@ pub fn run_crew_in<
         count operators.old operators.new }
     ensures finished { Finishes (I.faults input.old) (I.faults input.new) K.Sink output.old output.new result }
     ensures memory { HasWanted K.Sink output.old output.new result }
+    ensures unread { TakesNoneOrWants K.Sink output.old output.new operators.old operators.new result }
+    ensures handed_on { HandsOn K.Sink output.old output.new result }
     ensures wanted { WantsCrew K.Sink (H.refusals heap.old) (H.refusals heap.new) queues.old queues.new output.old output.new result }
     ensures later { H.refusals heap.old ≤ H.refusals heap.new }
     ensures queues_later { queues.old ≤ queues.new }
@@ -142,6 +147,8 @@ fn serve<R: Threads + Wait + Sync, H: Heap + Send, S: Source + Send + Drop, K: S
     ensures write { result ≡ Status.WriteFault → Rose (K.faults output.old) (K.faults output.new) }
     ensures finished { (reads : ℕ) → Finishes reads reads K.Sink output.old output.new result }
     ensures memory { HasWanted K.Sink output.old output.new result }
+    ensures unread { TakesNoneOrWants K.Sink output.old output.new operators.old operators.new result }
+    ensures handed_on { HandsOn K.Sink output.old output.new result }
     ensures wanted { WantsCrew K.Sink (H.refusals heap.old) (H.refusals heap.new) queues.old queues.new output.old output.new result }
     ensures later { H.refusals heap.old ≤ H.refusals heap.new }
     ensures queues_later { queues.old ≤ queues.new }

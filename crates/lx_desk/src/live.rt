@@ -8,7 +8,7 @@ ghost use Rattle.lx_spec.specs.declared.ScriptKind.TheVariants.{Live};
 ghost use Rattle.lx_workers.specs.Places.{IsFull};
 ghost use Rattle.lx_session.specs.Spared.{HasStood};
 ghost use Rattle.lx_desk.specs.Live.{HasLived, HasPlayedLive, KeepsOutlets, HasLiveCause, WantsLive};
-ghost use Rattle.lx_desk.specs.Live.{ArePlayed, TellsOutlets, TellsRun, DecidesInOrder, LivesToEnd, PlaysToEnd};
+ghost use Rattle.lx_desk.specs.Live.{ArePlayed, OutletsFinish, TellsOutlets, TellsRun, DecidesInOrder, LivesToEnd, PlaysToEnd};
 ghost use Rattle.lx_desk.specs.Finished.{ByMemory, Finishes};
 ghost use Rattle.lx_spec.specs.Text.{lines_of};
 ghost use Rattle.lx_spec.specs.Session.{bytes_wanted};
@@ -36,7 +36,8 @@ use std::thread::Threads;
 /// commands were accepted, a line is refused with `Memory` only where it is an edit that the desk accepts.
 ///
 /// The fault of the session decides the status first, then a write that failed in an outlet, and then that memory was short. An outlet
-/// that fails is ended, and no other. With Ok no read and no write failed, and all that was written is handed on.
+/// that fails is ended, and no other. The answer is never Live. With Ok no read and no write failed, in no outlet in use either, and all
+/// that was written is handed on.
 pub fn run_live<
     R: Threads + Wait + Sync,
     S: Source + Send,
@@ -184,6 +185,8 @@ fn play_live<
     ensures same_source { SameSource lines.old lines.new }
     ensures usage { result ≢ Status.Usage }
     ensures outlets { (outlets.new ≡ outlets.old) ⊎ ArePlayed K.Sink universes outlets.old outlets.new }
+    ensures live { result ≢ Status.Live }
+    ensures finish { OutletsFinish K.Sink universes outlets.old outlets.new result }
     ensures ended { ByMemory (H.refusals heap.old) (H.refusals heap.new) (λ ample. IfSome (unread S.Source lines.old)
         (λ bytes. HasPlayedLive ample result K.Sink show universes (bytes_taken lines.old) bytes
         (source_left S.Source lines.new) (O.holds output.old) (O.holds output.new) outlets.old outlets.new)) }

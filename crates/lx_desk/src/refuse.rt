@@ -23,6 +23,7 @@ pub(crate) fn refuse<K: Sink>(fault: ShowFault, output: &mut K) -> Status
     ensures finished { (reads : ℕ) → Finishes reads reads K.Sink output.old output.new result }
     ensures memory { HasWanted K.Sink output.old output.new result }
     ensures wanted { result ≡ Status.Memory → (fault ≡ ShowFault.Memory) ⊎ Rose (K.wants output.old) (K.wants output.new) }
+    ensures untouched { (result ≡ Status.ReadFault) ⊎ (result ≡ Status.InputTooLong) → output.new ≡ output.old }
 {
     match fault {
         ShowFault::Text(fault) => write_fault(fault, output),

@@ -26,6 +26,18 @@ none_served ample told count form bytes left held operators = inl (record {
   untouched = refl;
 })
 
+not_live : (s : Status) → (s ≡ status.Usage) ⊎ (s ≡ status.Memory) → s ≢ status.Live
+not_live s which is = elim which [
+  | inl usage ↦ let odd : status.Usage ≡ status.Live = sym usage ∙ is in cc
+  | inr memory ↦ let odd : status.Memory ≡ status.Live = sym memory ∙ is in cc
+]
+
+not_ok : (s : Status) → (s ≡ status.Usage) ⊎ (s ≡ status.Memory) → s ≢ status.Ok
+not_ok s which is = elim which [
+  | inl usage ↦ let odd : status.Usage ≡ status.Ok = sym usage ∙ is in cc
+  | inr memory ↦ let odd : status.Memory ≡ status.Ok = sym memory ∙ is in cc
+]
+
 -- Each outlet is as it was, and each operator's source.
 pub keeps_outlets : {I O K : Type 0} (told : ToldBySink K) (o : Option Job) (s : Status) (input : I) (output : O) (outlets : List (Option K))
     → (s ≡ status.Usage) ⊎ (s ≡ status.Memory) → (s ≡ status.Usage → NamesNoRun o)
@@ -35,16 +47,11 @@ keeps_outlets told (Some (Check form)) s input output outlets which none = (whic
 keeps_outlets told (Some (Sheet form)) s input output outlets which none = (which, (refl, (refl, refl)))
 keeps_outlets told (Some (Make n)) s input output outlets which none = (which, (refl, (refl, refl)))
 keeps_outlets told (Some (Script Render form)) s input output outlets which none = (which, (refl, (refl, refl)))
-keeps_outlets told (Some (Script (Live universes) form)) s input output outlets which none = (none, inl refl)
+keeps_outlets told (Some (Script (Live universes) form)) s input output outlets which none =
+    (none, inl refl, not_live s which, λ ok place start within at. absurd (not_ok s which ok))
 keeps_outlets told (Some (Script Undo form)) s input output outlets which none = (which, (refl, (refl, refl)))
 keeps_outlets told (Some (Script Two form)) s input output outlets which none = (which, (refl, (refl, refl)))
 keeps_outlets told (Some (Crew count form)) s input output outlets which none = (which, (refl, (refl, refl)))
-
-not_live : (s : Status) → (s ≡ status.Usage) ⊎ (s ≡ status.Memory) → s ≢ status.Live
-not_live s which is = elim which [
-  | inl usage ↦ let odd : status.Usage ≡ status.Live = sym usage ∙ is in cc
-  | inr memory ↦ let odd : status.Memory ≡ status.Live = sym memory ∙ is in cc
-]
 
 pub keeps_operators : {I O S : Type 0} (o : Option Job) (s : Status) (input : I) (output : O) (operators : List (Option S))
     → (s ≡ status.Usage) ⊎ (s ≡ status.Memory) → (s ≡ status.Usage → NamesNoCrew o) → EachAt (λ place source. IsSome source) operators

@@ -6,7 +6,7 @@ ghost use Rattle.lx_base.specs.declared.TheConstants.{OPERATORS};
 ghost use Rattle.lx_spec.specs.Job.{job_of};
 ghost use Rattle.lx_spec.specs.Reading.{reads};
 ghost use Rattle.lx_session.specs.Spared.{HasStood};
-ghost use Rattle.lx_desk.specs.Crew.{HasCrewCause, HasCrewEnded, KeepsOperators, WritesCrewFront};
+ghost use Rattle.lx_desk.specs.Crew.{HandsOn, HasCrewCause, HasCrewEnded, KeepsOperators, TakesNoneOrWants, WritesCrewFront};
 ghost use Rattle.lx_desk.specs.Finished.{Finishes, HasWanted};
 ghost use Rattle.lx_program.specs.NamedJob.{OfCrew, in_use};
 ghost use Rattle.lx_program.specs.Wants.{ReadsWordsOnce, WantsCrewOrWords};
@@ -55,9 +55,12 @@ pub fn desk_crew<R: Threads + Wait + Sync, I: Source, S: Source + Send + Drop, K
         (λ count form bytes. WritesCrewFront S.Source count operators.old (K.holds output.old) (K.holds output.new) (reads form bytes)) }
 
     // ReadFault and WriteFault have their causes. With Ok and ShowRefused no fault of the input or the output was passed over, and all
-    // that was written is handed on. Memory is told only before anything is written, or where the output itself is out of memory.
+    // that was written is handed on; so it is where an operator's fault is told. Memory is told only before anything is written and any operator's source read, or where the output
+    // itself is out of memory.
     ensures finished { Finishes (I.faults input.old) (I.faults input.new) K.Sink output.old output.new result }
     ensures memory { HasWanted K.Sink output.old output.new result }
+    ensures unread { TakesNoneOrWants K.Sink output.old output.new operators.old operators.new result }
+    ensures handed_on { HandsOn K.Sink output.old output.new result }
     ensures cause { HasCrewCause S.Source result (I.faults input.old) (I.faults input.new) (K.faults output.old) (K.faults output.new)
         (in_use (job_of (map string_bytes words.now))) operators.old operators.new }
 {
@@ -107,6 +110,8 @@ pub fn desk_crew_in<
         (λ count form bytes. WritesCrewFront S.Source count operators.old (K.holds output.old) (K.holds output.new) (reads form bytes)) }
     ensures finished { Finishes (I.faults input.old) (I.faults input.new) K.Sink output.old output.new result }
     ensures memory { HasWanted K.Sink output.old output.new result }
+    ensures unread { TakesNoneOrWants K.Sink output.old output.new operators.old operators.new result }
+    ensures handed_on { HandsOn K.Sink output.old output.new result }
 
     // Memory is told only where the heap refused some, or the queue's did, or the output itself is out of memory; or where the words' heap
     // did, before anything was asked of them.

@@ -1,4 +1,4 @@
-use Rattle.lx_desk.proofs.Imports.{false, true, arith, stood_since, refl, IfSome, sym, ap, ◌∙◌, subst, HasCrewEnded, IsDone, Finishes}
+use Rattle.lx_desk.proofs.Imports.{inl, false, true, arith, stood_since, refl, IfSome, sym, ap, ◌∙◌, subst, HasCrewEnded, IsDone, Finishes}
 use Rattle.lx_desk.proofs.Finishing.{after_reads, refusal_reads, refusal_wanted}
 use Rattle.lx_desk.proofs.CrewRuns.{as_crew, crew_since, kept_places}
 use Rattle.lx_desk.proofs.LiveEnds.{refused_words, refused_live}
@@ -81,3 +81,9 @@ returns-in-Err-clause-wanted g c =
 
 pub returns-in-Ok-clause-later : goal.returns-in-Ok-clause-later
 returns-in-Ok-clause-later g c = omega (arith, c.in-Ok.ensures.cause.later, c.serve.ensures.later)
+
+pub returns-in-Err-clause-unread : goal.returns-in-Err-clause-unread
+returns-in-Err-clause-unread g c = λ is. inl refl
+
+pub returns-in-Err-clause-handed_on : goal.returns-in-Err-clause-handed_on
+returns-in-Err-clause-handed_on g c = λ which. inl (c.refuse.ensures.untouched which)

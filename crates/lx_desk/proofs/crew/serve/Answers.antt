@@ -1,6 +1,6 @@
 use Rattle.lx_desk.proofs.Imports.{inl, inr, false, stood_since, refl, ap, sym, subst, arith, IsSome, length, ◌≤◌, opened, EachAt}
 use Rattle.lx_desk.proofs.CrewRuns.{crew_finishes, crew_wants, crew_wanted, crew_not_live, full_front, keeps_places, kept_places, joined, serves}
-use Rattle.lx_desk.proofs.CrewRuns.{served_front, no_lines, operator_failed}
+use Rattle.lx_desk.proofs.CrewRuns.{served_front, no_lines, operator_failed, crew_takes, crew_hands_on}
 use Rattle.lx_desk.proofs.Finishing.{rose_since}
 use Rattle.lx_desk.proofs.crew.serve.Goals as goal
 
@@ -76,3 +76,25 @@ returns-clause-wanted g c = λ is. elim c.in-Err.ensures.memory [
       (g.H.Heap.refusals c.crew_in.new.heap) c.in-Ok.ensures.cause.later refused))
   | inr queue ↦ inl (inr queue)
 ]
+
+pub returns-in-Ok-crew_in-clause-unread : goal.returns-in-Ok-crew_in-clause-unread
+returns-in-Ok-crew_in-clause-unread g c =
+    crew_takes g.K.Sink _ _ _ _ _ _ c.status_of_crew.result c.status_of_crew.ensures c.in-Ok-crew_in.ensures.cause
+
+pub returns-in_default-clause-unread : goal.returns-in_default-clause-unread
+returns-in_default-clause-unread g c = λ is. inl refl
+
+pub returns-clause-unread : goal.returns-clause-unread
+returns-clause-unread g c = λ is.
+    let s = c.split_at_mut-used.ensures in
+    inl (joined _ _ _ _ _ c.in-Err.ensures.err.1.1 s.front s.back)
+
+pub returns-in-Ok-crew_in-clause-handed_on : goal.returns-in-Ok-crew_in-clause-handed_on
+returns-in-Ok-crew_in-clause-handed_on g c =
+    crew_hands_on g.K.Sink _ _ _ _ c.status_of_crew.result c.status_of_crew.ensures c.in-Ok-crew_in.ensures.cause c.in-Ok-crew_in.ensures.handed_on
+
+pub returns-in_default-clause-handed_on : goal.returns-in_default-clause-handed_on
+returns-in_default-clause-handed_on g c = λ which. inl refl
+
+pub returns-clause-handed_on : goal.returns-clause-handed_on
+returns-clause-handed_on g c = λ which. inl c.in-Err.ensures.err.1.0

@@ -1,6 +1,7 @@
 use Rattle.lx_desk.proofs.Imports.{rules, ◌≡◌, inl, inr, false, ◌+◌, ◌++◌, ◌≤◌, IfSome, length, sym, ap, subst, arith, unread, Kept, Show, IsFull}
 use Rattle.lx_desk.proofs.Imports.{INPUT_BYTES, lines_of, bytes_wanted, HasPlayedLive, DecidesInOrder, PlaysToEnd, stood_since}
 use Rattle.lx_desk.proofs.LiveRuns.{full_take, are_played, has_played_live, live_cause, none_ordered, none_played, not_usage, in_order, live_wanted, run_finishes}
+use Rattle.lx_desk.proofs.LiveRuns.{not_live, outlets_finish}
 use Rattle.lx_desk.proofs.Finishing.{rose_since}
 use Rattle.lx_desk.proofs.live.play_live.Goals as goal
 
@@ -55,7 +56,7 @@ returns-in-Ok-play_in-clause-order g c = λ ample stood.
     × (c.args.lines.now.taken + length (bytes_wanted bytes) ≤ INPUT_BYTES)))) same
     (in_order ample _ _ _ _ _ _ _ _ _ _ _ _ s.front s.front_len s.back p.unsent_is p.outlets_are g.S.Source g.O.Sink
     c.args.lines.now c.play_in.new.lines c.args.output.now c.play_in.new.output _ _ _ _ _ _ _ _
-    c.status_of_run.ensures p.session_is c.in-Ok-play_in.ensures.limit c.in-Ok-play_in.ensures.cause)
+    c.status_of_run.ensures p.session_is c.in-Ok-play_in.ensures.limit c.in-Ok-play_in.ensures.cause c.in-Ok-play_in.ensures.handed_on)
 
 pub returns-in-Ok-play_in-clause-finished : goal.returns-in-Ok-play_in-clause-finished
 returns-in-Ok-play_in-clause-finished g c =
@@ -85,3 +86,18 @@ returns-clause-order g c = λ ample stood.
     (λ bytes Told. PlaysToEnd ample Told g.K.Sink c.args.show c.args.universes (lines_of bytes) (g.O.Sink.holds c.args.output.now)
     (g.O.Sink.holds c.play_in.new.output) c.args.outlets.now (c.play_in.new.outlets ++ c.split_at_mut-used.result.1.now)
     × (c.args.lines.now.taken + length (bytes_wanted bytes) ≤ INPUT_BYTES)) c.in-Err.ensures.err.1.1.0 (search rules)
+
+pub returns-in-Ok-play_in-clause-live : goal.returns-in-Ok-play_in-clause-live
+returns-in-Ok-play_in-clause-live g c = not_live _ _ _ _ c.status_of_run.ensures
+
+pub returns-in-Ok-play_in-clause-finish : goal.returns-in-Ok-play_in-clause-finish
+returns-in-Ok-play_in-clause-finish g c =
+    let s = c.split_at_mut-used.ensures in
+    outlets_finish _ _ _ _ _ _ _ _ _ _ _ _ s.front s.front_len (c.in-Ok-play_in.ensures.played false (λ no. absurd cc)).outlets_are
+    c.status_of_run.ensures
+
+pub returns-in_default-clause-finish : goal.returns-in_default-clause-finish
+returns-in_default-clause-finish g c = λ ok place start within at. absurd cc
+
+pub returns-clause-finish : goal.returns-clause-finish
+returns-clause-finish g c = λ ok place start within at. absurd cc

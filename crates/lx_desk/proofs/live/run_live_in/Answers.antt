@@ -1,11 +1,13 @@
 use Rattle.lx_desk.proofs.Imports.{inl, refl, false, true, arith, stood_since, IfSome, sym, ap, ◌∙◌, subst, HasLived, DecidesInOrder, LivesToEnd, IsDone, Finishes}
 use Rattle.lx_desk.proofs.Finishing.{after_reads, refusal_reads, refusal_wanted}
 use Rattle.lx_desk.proofs.LiveRuns.{as_live, live_since}
-use Rattle.lx_desk.proofs.LiveEnds.{live_ended, live_order, all_refused, refused_lived, refused_words}
+use Rattle.lx_desk.proofs.Inputs.{refusal_isnt_ok}
+use Rattle.lx_desk.proofs.LiveEnds.{live_ended, live_order, all_refused, refused_lived, refused_words, refused_live}
 use Rattle.lx_desk.proofs.live.run_live_in.Goals as goal
 
 pub returns-in-Ok-clause-outlets : goal.returns-in-Ok-clause-outlets
-returns-in-Ok-clause-outlets g c = (c.play_live.ensures.usage, c.play_live.ensures.outlets)
+returns-in-Ok-clause-outlets g c =
+    (c.play_live.ensures.usage, c.play_live.ensures.outlets, c.play_live.ensures.live, c.play_live.ensures.finish)
 
 pub returns-in-Ok-clause-ended : goal.returns-in-Ok-clause-ended
 returns-in-Ok-clause-ended g c =
@@ -18,7 +20,12 @@ returns-in-Ok-clause-ended g c =
     c.new-lines.ensures.taken c.in-Ok.ensures.answer (c.play_live.ensures.ended false (λ no. absurd cc)))
 
 pub returns-in-Err-clause-outlets : goal.returns-in-Err-clause-outlets
-returns-in-Err-clause-outlets g c = (refused_words _ _ c.in-Err.fault c.refuse.result c.refuse.ensures.refused, inl refl)
+returns-in-Err-clause-outlets g c = (
+  refused_words _ _ c.in-Err.fault c.refuse.result c.refuse.ensures.refused,
+  inl refl,
+  refused_live _ _ c.in-Err.fault c.refuse.result c.refuse.ensures.refused,
+  λ ok place start within at. refusal_isnt_ok _ _ c.in-Err.fault c.refuse.result _ c.refuse.ensures.refused ok,
+)
 
 pub returns-in-Err-clause-ended : goal.returns-in-Err-clause-ended
 returns-in-Err-clause-ended g c =
