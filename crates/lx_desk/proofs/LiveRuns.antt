@@ -8,6 +8,7 @@ use Rattle.lx_desk.proofs.Imports.{HasSessionCause, IsFull, Status, status_for, 
 use Rattle.lx_desk.proofs.Imports.{AreServed, PlaysInFront, PlaysTaken, HasPlayedLive, ArePlayed, OutletFailed, PlaysToEnd, LacksMemory, HasFailedOutlet}
 use Rattle.lx_desk.proofs.Imports.{DecidesInOrder, Finishes, HasLiveCause, TellsOutlets, TellsRun, Appends, AppendsFront, ToldBySink, ToldBySource}
 use Rattle.std.specs.Prelude.{◌&&◌}
+use Rattle.lx_desk.proofs.Imports.{◌-◌, AppendsAtLeast, desk_lawful, more_of_whole}
 use Rattle.lx_desk.proofs.Imports.{Rose, HasStood, OutletsFinish, OutletWanted, WantsLive, WantsMemory}
 use Rattle.std.proofs.lemmas.Bool.{cases_lt}
 use Rattle.lx_io.specs.Causes.{one_more}
@@ -101,6 +102,12 @@ engine_over ample published unsent show failures lines = after_each (engine_of a
 abbrev live_over : Show → List (Option ℕ) → List (List ℕ) → Session DeskState
 live_over show failures lines = after_each (desk_answering false) failures (begin_at (begun (opened show))) lines
 
+same_over : (ample : Bool) (published unsent : List Command) (show : Show) (failures : List (Option ℕ)) (lines : List (List ℕ))
+    → engine_over ample published unsent show failures lines ≡ live_over show failures lines
+same_over ample published unsent show failures lines =
+    let room = leaves_room (published ++ unsent) in
+    alike (ample && room) room failures (begin_at (begun (opened show))) lines
+
 -- The two are the same, and so are their commands and where attempts failed.
 record IsLive (ample : Bool) (show : Show) (published unsent : List Command) (script lines : List (List ℕ)) (failures : List (Option ℕ))
     : Type 0 where
@@ -113,8 +120,7 @@ is_live : (ample : Bool) (show : Show) (published unsent : List Command) (consol
     → Done show published unsent console (engine_over ample published unsent show failures lines).state
     → IsLive ample show published unsent script lines failures
 is_live ample show published unsent console script lines failures allows done =
-    let room = leaves_room (published ++ unsent) in
-    let same = alike (ample && room) room failures (begin_at (begun (opened show))) lines in
+    let same = same_over ample published unsent show failures lines in
     let accepted = ap (λ (s : Session DeskState). s.state.accepted) (sym same) ∙ done.listened in
     record {
       same = same;
@@ -139,6 +145,8 @@ module _ {K : Type 0} (ample : Bool) (told : ToldBySink K) (show : Show) (univer
         lines = a.lines;
         allows = live.allows;
         text = subst (λ (s : Session DeskState). AppendsFront held held' s.text) live.same a.text;
+        earlier = subst (λ (s : Session DeskState). AppendsAtLeast held held' s.text)
+            (same_over ample published unsent show a.failures (take (a.lines - 1) (answered_lines (lines_of bytes)))) a.earlier;
         served = served _ live.accepted;
       }
 
@@ -149,13 +157,15 @@ module _ {K : Type 0} (ample : Bool) (told : ToldBySink K) (show : Show) (univer
       let lines = answered_lines script in
       let live = is_live ample show published unsent console script lines a.failures a.allows a.stands in
       let all : lines ≡ take (length lines) lines = sym (take_all (length lines) lines (omega arith)) in
+      let text = subst (λ (s : Session DeskState). Appends held held' s.text) live.same a.text in
+      let more = more_of_whole (desk_answering false) (desk_lawful false) (begun (opened show)) script a.failures (length lines - 1) in
       record {
         failures = a.failures;
         lines = length lines;
         allows = subst (λ (ls : List (List ℕ)). LiveAllows ample show script a.failures (live_over show a.failures ls).state.accepted) all live.allows;
         text = subst (λ (ls : List (List ℕ)). AppendsFront held held' (live_over show a.failures ls).text) all
-            (whole_front held held' (live_session show script a.failures).text
-            (subst (λ (s : Session DeskState). Appends held held' s.text) live.same a.text));
+            (whole_front held held' (live_session show script a.failures).text text);
+        earlier = (more.0, subst (λ (v : List ℕ). Appends held held' v) more.1 text);
         served = served _ (subst (λ (ls : List (List ℕ)). (live_over show a.failures ls).state.accepted ≡ published ++ unsent) all live.accepted);
       }
 

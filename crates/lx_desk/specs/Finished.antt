@@ -1,8 +1,7 @@
 -- What a status tells of the counts of faults, and of what is kept back.
-use Rattle.std.specs.Prelude.{◌≡◌, ◌⊎◌, ℕ, Bool, true, []}
+use Rattle.std.specs.Prelude.{◌≡◌, ◌⊎◌, ℕ, []}
 use Rattle.lx_io.specs.Causes.{Rose}
 use Rattle.lx_io.specs.Told.{ToldBySink}
-use Rattle.lx_session.specs.Spared.{HasStood}
 use Rattle.lx_desk.specs.declared.desk.Status.{Status}
 use Rattle.lx_desk.specs.declared.desk.Status.TheVariants as status
 
@@ -18,10 +17,6 @@ pub record Finishes {K : Type 0} (reads reads' : ℕ) (told : ToldBySink K) (out
   pub writes_kept : IsDone s → told.faults output' ≡ told.faults output
   pub wants_kept : IsDone s → told.wants output' ≡ told.wants output
   pub handed_on : IsDone s → told.back output' ≡ []
-
--- What holds where memory was ample and where it may not have been: it was, if the heap refused nothing.
-abbrev pub ByMemory : (refusals refusals' : ℕ) → (Bool → Type 0) → Type 0
-ByMemory refusals refusals' P = (ample : Bool) → (ample ≡ true → HasStood refusals refusals') → P ample
 
 -- Out of memory: the heap refused some, or the output itself was.
 abbrev pub WantsMemory : {K : Type 0} → ToldBySink K → (refusals refusals' : ℕ) → (output output' : K) → Status → Type 0

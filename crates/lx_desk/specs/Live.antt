@@ -24,7 +24,7 @@ use Rattle.lx_spec.specs.ScriptOutput.{input_wanted}
 use Rattle.lx_workers.specs.Works.{HasAll}
 use Rattle.lx_workers.specs.Engines.{engine_answering}
 use Rattle.lx_workers.specs.LiveOutcome.{AreDelivered}
-use Rattle.lx_session.specs.Known.{Known}
+use Rattle.lx_session.specs.Known.{AppendsAtLeast, Known}
 use Rattle.lx_session.specs.declared.fault.SessionFault.{SessionFault}
 use Rattle.lx_session.specs.declared.tally.Tally.{Tally}
 use Rattle.lx_desk.specs.declared.desk.Status.{Status}
@@ -81,14 +81,15 @@ pub record AreServed {K : Type 0} (told : ToldBySink K) (show : Show) (universes
   pub commands_are : commands ≡ published ++ held_back
   pub got : HaveGot told show universes outlets outlets' published
 
--- Up to this many lines of a script were answered, by a prefix of the replies, and the outlets got what was published of the commands that
--- these lines came to.
+-- Up to this many lines of a script were answered, by a prefix of the replies, in which those to all of them but the last are whole; and the
+-- outlets got what was published of the commands that these lines came to.
 pub record PlaysInFront {K : Type 0} (ample : Bool) (told : ToldBySink K) (show : Show) (universes : ℕ)
     (script : List (List ℕ)) (held held' : Known) (outlets outlets' : List (Option K)) : Type 0 where
   pub failures : List (Option ℕ)
   pub lines : ℕ
   pub allows : LiveAllows ample show script failures (live_after show script failures lines).state.accepted
   pub text : AppendsFront held held' (live_after show script failures lines).text
+  pub earlier : AppendsAtLeast held held' (live_after show script failures (lines - 1)).text
   pub served : AreServed told show universes outlets outlets' (live_after show script failures lines).state.accepted
 
 -- The lines that were taken whole were answered, and the outlets got what was published of the commands that these lines came to.

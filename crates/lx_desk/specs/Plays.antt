@@ -8,7 +8,8 @@ use Rattle.lx_spec.specs.Session.{Answering}
 use Rattle.lx_desk.specs.declared.desk.Status.{Status}
 use Rattle.lx_desk.specs.Output.{AnswersInFront}
 use Rattle.lx_desk.specs.Endings.{EndsScript, HasPlayed, HasCauseOf}
-use Rattle.lx_desk.specs.Finished.{ByMemory, Finishes, HasWanted, WantsMemory}
+use Rattle.lx_session.specs.Spared.{ByMemory}
+use Rattle.lx_desk.specs.Finished.{Finishes, HasWanted, WantsMemory}
 
 -- The script that is left was answered from this state on, from lines to lines and from an output to an output, by a heap whose count of
 -- refusals went from one number to another.

@@ -10,7 +10,8 @@ ghost use Rattle.std.specs.Io.KnownBytes.{Appends};
 ghost use Rattle.lx_io.specs.Puts.{AppendsFront, Puts};
 ghost use Rattle.lx_spec.specs.CheckOutput.{check_text};
 ghost use Rattle.lx_reader.specs.Answer.{reading_of};
-ghost use Rattle.lx_desk.specs.Finished.{ByMemory, Finishes, HasWanted, WantsMemory};
+ghost use Rattle.lx_session.specs.Spared.{ByMemory};
+ghost use Rattle.lx_desk.specs.Finished.{Finishes, HasWanted, WantsMemory};
 
 use crate::desk::Status;
 use crate::refuse::refuse;

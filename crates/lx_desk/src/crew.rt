@@ -6,10 +6,10 @@ ghost use Rattle.lx_io.specs.Causes.{Rose};
 ghost use Rattle.lx_spec.specs.declared.Job.TheVariants.{Crew};
 ghost use Rattle.lx_spec.specs.Reading.{reads};
 ghost use Rattle.lx_base.specs.Places.{EachAt};
-ghost use Rattle.lx_session.specs.Spared.{HasStood};
+ghost use Rattle.lx_session.specs.Spared.{ByMemory, HasStood};
 ghost use Rattle.lx_desk.specs.Crew.{HandsOn, HasCrewCause, HasCrewEnded, KeepsOperators, KeepsPlaces, OperatorFailed, ServesOrWants};
 ghost use Rattle.lx_desk.specs.Crew.{TakesNoneOrWants, TellsCrew, TellsOperators, WantsCrew, WritesCrewFront, WritesFirstLines};
-ghost use Rattle.lx_desk.specs.Finished.{ByMemory, Finishes, HasWanted};
+ghost use Rattle.lx_desk.specs.Finished.{Finishes, HasWanted};
 
 use crate::desk::Status;
 use crate::refuse::refuse;

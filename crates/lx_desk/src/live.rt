@@ -6,10 +6,10 @@ ghost use Rattle.lx_lex.specs.Unread.{CanAdvance, SameSource, bytes_taken, sourc
 ghost use Rattle.lx_spec.specs.declared.Job.TheVariants.{Script};
 ghost use Rattle.lx_spec.specs.declared.ScriptKind.TheVariants.{Live};
 ghost use Rattle.lx_workers.specs.Places.{IsFull};
-ghost use Rattle.lx_session.specs.Spared.{HasStood};
+ghost use Rattle.lx_session.specs.Spared.{ByMemory, HasStood};
 ghost use Rattle.lx_desk.specs.Live.{HasLived, HasPlayedLive, KeepsOutlets, HasLiveCause, WantsLive};
 ghost use Rattle.lx_desk.specs.Live.{ArePlayed, OutletsFinish, TellsOutlets, TellsRun, DecidesInOrder, LivesToEnd, PlaysToEnd};
-ghost use Rattle.lx_desk.specs.Finished.{ByMemory, Finishes};
+ghost use Rattle.lx_desk.specs.Finished.{Finishes};
 ghost use Rattle.lx_spec.specs.Text.{lines_of};
 ghost use Rattle.lx_spec.specs.Session.{bytes_wanted};
 

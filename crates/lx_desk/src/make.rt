@@ -19,7 +19,8 @@ ghost use Rattle.lx_console.specs.ConsoleMeaning.{StandsFor};
 ghost use Rattle.lx_desk.specs.Output.{WritesPrefix};
 ghost use Rattle.lx_desk.specs.Endings.{EndsJob, EndsScript, HasEndedBy, HasCauseOf};
 ghost use Rattle.lx_desk.specs.Made.{HasTold, TellsInFront, report_of, report_text};
-ghost use Rattle.lx_desk.specs.Finished.{ByMemory, Finishes, HasWanted, WantsMemory};
+ghost use Rattle.lx_session.specs.Spared.{ByMemory};
+ghost use Rattle.lx_desk.specs.Finished.{Finishes, HasWanted, WantsMemory};
 
 use crate::desk::Status;
 use crate::discard::Discard;

@@ -7,7 +7,8 @@ ghost use Rattle.lx_spec.specs.declared.Job.TheVariants as jobs;
 ghost use Rattle.lx_spec.specs.ScriptKinds.{answering_of, opening_of};
 ghost use Rattle.lx_desk.specs.Output.{WritesPrefix};
 ghost use Rattle.lx_desk.specs.Endings.{AnswersWords, EndsJob, HasEndedBy, HasCauseOf, is_live};
-ghost use Rattle.lx_desk.specs.Finished.{ByMemory, Finishes, HasWanted, WantsMemory};
+ghost use Rattle.lx_session.specs.Spared.{ByMemory};
+ghost use Rattle.lx_desk.specs.Finished.{Finishes, HasWanted, WantsMemory};
 ghost use Rattle.lx_desk.specs.Plays.{Plays};
 
 use crate::desk::Status;

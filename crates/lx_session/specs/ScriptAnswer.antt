@@ -21,7 +21,7 @@ pub record AnsweredWhole (by : Answering (List ℕ)) (Stands : by.State → Type
   pub stands : Stands (whole_session by state script failures).state
 
 -- This many lines were handed out and done, and a prefix of the text that answers them was written. The replies to all of them but the
--- last were written whole, so that none is done behind the one at whose reply the sink failed.
+-- last were written whole: no line is done behind one whose reply isn't.
 pub record AnsweredPrefix (by : Answering (List ℕ)) (Stands : by.State → Type 0) (state : by.State)
     (bytes : List ℕ) (unread held held' : Known) : Type 0 where
   pub failures : List (Option ℕ)
