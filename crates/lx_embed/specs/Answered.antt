@@ -10,7 +10,7 @@ use Rattle.lx_spec.specs.Undo.{UndoState}
 use Rattle.lx_spec.specs.UndoSession.{undo_answering}
 use Rattle.lx_console.specs.ConsoleMeaning.{StandsFor}
 use Rattle.lx_session.specs.OneAnswer.{GoesOnBy}
-use Rattle.lx_session.specs.Spared.{HasStood, spared}
+use Rattle.lx_session.specs.Spared.{spared}
 use Rattle.lx_undo.specs.UndoDeskMeaning.{UndoStands}
 use Rattle.lx_embed.specs.declared.engine.Engine.{Engine}
 use Rattle.lx_embed.specs.declared.engine.Engine.TheVariants.{Plain, Undo}
@@ -35,10 +35,6 @@ Answered ample (Undo before) (Undo now) line result reply = (s : UndoState) → 
     → AnswersLine (spared ample undo_answering) (λ next. UndoStands next now) s line result reply
 Answered ample (Plain before) (Undo now) line result reply = ⊥
 Answered ample (Undo before) (Plain now) line result reply = ⊥
-
--- What holds where memory was ample and where it may not have been: it was, if the heap refused nothing.
-abbrev pub ByMemory : (refusals refusals' : ℕ) → (Bool → Type 0) → Type 0
-ByMemory refusals refusals' P = (ample : Bool) → (ample ≡ true → HasStood refusals refusals') → P ample
 
 -- no LF and no CR is among the bytes
 abbrev pub is_bare : List ℕ → Bool

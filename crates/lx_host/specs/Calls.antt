@@ -16,7 +16,8 @@ use Rattle.lx_reader.specs.declared.fault.ShowFault.TheVariants.{Text}
 use Rattle.lx_console.specs.ConsoleMeaning.{StandsFor}
 use Rattle.lx_embed.specs.declared.desk.HostDesk.{HostDesk}
 use Rattle.lx_embed.specs.declared.state.PlaybackState.{PlaybackState}
-use Rattle.lx_embed.specs.Answered.{Answered, ByMemory}
+use Rattle.lx_embed.specs.Answered.{Answered}
+use Rattle.lx_session.specs.Spared.{ByMemory}
 use Rattle.lx_embed.specs.Engines.{console_of}
 use Rattle.lx_embed.specs.Opened.{HasFault, IsUntouched, OpensText}
 use Rattle.lx_embed.specs.ReplyBytes.{reply_bytes, wants_of}
