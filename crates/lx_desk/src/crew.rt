@@ -31,9 +31,9 @@ use std::thread::Threads;
 /// operator and its number among that operator's lines, and then its replies. Which operator comes next isn't said.
 ///
 /// A fault of an operator costs no line of another. The fault of the output decides the status first, and then that of the
-/// lowest operator that had one; where that is told, all that was written is handed on. The answer is never Live. With Ok and ShowRefused no read of the input and no write failed, and
-/// all that was written is handed on; Memory is told only before anything is written and any operator's source read, or where the output
-/// itself is out of memory.
+/// lowest operator that had one; where that is told, all that was written is handed on. The answer is never Live. With Ok and ShowRefused
+/// no read of the input and no write failed, and all that was written is handed on. Memory is told only before anything is written and
+/// any operator's source read, or where the output itself is out of memory.
 pub fn run_crew<R: Threads + Wait + Sync, I: Source, S: Source + Send + Drop, K: Sink + Send>(
     rt: &R,
     alloc: Global,

@@ -55,8 +55,8 @@ pub fn desk_crew<R: Threads + Wait + Sync, I: Source, S: Source + Send + Drop, K
         (λ count form bytes. WritesCrewFront S.Source count operators.old (K.holds output.old) (K.holds output.new) (reads form bytes)) }
 
     // ReadFault and WriteFault have their causes. With Ok and ShowRefused no fault of the input or the output was passed over, and all
-    // that was written is handed on; so it is where an operator's fault is told. Memory is told only before anything is written and any operator's source read, or where the output
-    // itself is out of memory.
+    // that was written is handed on; so it is where an operator's fault is told. Memory is told only before anything is written and any
+    // operator's source read, or where the output itself is out of memory.
     ensures finished { Finishes (I.faults input.old) (I.faults input.new) K.Sink output.old output.new result }
     ensures memory { HasWanted K.Sink output.old output.new result }
     ensures unread { TakesNoneOrWants K.Sink output.old output.new operators.old operators.new result }

@@ -1,7 +1,8 @@
-use Rattle.lx_program.proofs.Imports.{inl, ap, refl, true, false, map, string_bytes, job_of}
+use Rattle.lx_program.proofs.Imports.{inl, ap, refl, true, false, map, string_bytes, job_of, Option, Job, subst, sym}
 use Rattle.std.proofs.Common.{inr, Err}
 use Rattle.lx_program.proofs.JobWords.{of_each_run, of_no_run}
 use Rattle.lx_program.proofs.NothingBegun.{keeps_outlets, none_lived}
+use Rattle.lx_desk.specs.Live.{KeepsOutlets}
 use Rattle.lx_desk.specs.declared.desk.Status.TheVariants as status
 use Rattle.lx_program.proofs.live.desk_live_in.Goals as goal
 
@@ -67,3 +68,8 @@ returns-in-Err-Usage-clause-words_kept g c = inl (c.in-Err-Usage.ensures.cause.o
 
 pub returns-in-Err-Memory-clause-words_kept : goal.returns-in-Err-Memory-clause-words_kept
 returns-in-Err-Memory-clause-words_kept g c = inr (refl, (refl, (refl, (refl, (refl, refl)))))
+
+pub returns-in-Ok-clause-outlets : goal.returns-in-Ok-clause-outlets
+returns-in-Ok-clause-outlets g c =
+    subst (λ (o : Option Job). KeepsOutlets g.K.Sink o c.run_live_in.result c.args.input.now c.run_live_in.new.input c.args.output.now
+    c.run_live_in.new.output c.args.outlets.now c.run_live_in.new.outlets) (sym c.in-Ok.ensures.run) c.run_live_in.ensures.outlets
