@@ -79,10 +79,20 @@ python3 - src/main.rt <<'PYTHON'
 import sys
 path = sys.argv[1]
 text = open(path).read()
-head = text[:text.index('fn main(rt')].replace('use lx_io::{BufferedSink, Sink, StdSink, StdSource};', 'use lx_io::{Pace, PlainSink, StdSource};')
-head = head.replace('use std::alloc::Global;\n', 'use std::alloc::Global;\nuse std::sync::atomic::AtomicU64;\nuse std::sync::atomic::Ordering::SeqCst;\nuse std::thread;\n')
-head = head.replace('use std::process::ExitCode;\n', 'use std::process::ExitCode;\nuse std::time::{Duration, Instant};\n')
-head = head.replace('use lx_program::{DeskPace, files, scripts};\n', '')
+uses = '''use lx_desk::Status;
+use lx_io::{Pace, PlainSink, StdSource};
+use lx_program::{desk, desk_live, exit_of};
+use std::alloc::Global;
+use std::io::IsTerminal;
+use std::process::ExitCode;
+use std::sync::atomic::AtomicU64;
+use std::sync::atomic::Ordering::SeqCst;
+use std::thread;
+use std::time::{Duration, Instant};
+use std::{env, io};
+
+'''
+head = text[:text.index('use lx_crew')] + uses + text[text.index('/// The line that says'):text.index('fn main(rt')]
 open(path, 'w').write(head + '''/// A pace whose beats take a number of microseconds, and which counts the engine's own time from beat to beat.
 #[derive(Drop)]
 struct Timed<'r> {
