@@ -18,7 +18,7 @@ pub enum SessionFault {
     #[error("the input is too long")]
     InputTooLong,
     /// The sink ran out of memory.
-    #[error("want of memory")]
+    #[error("the output is out of memory")]
     Memory,
 }
 
