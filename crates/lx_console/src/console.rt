@@ -1,7 +1,7 @@
 //! The console: a player, and the output that shows it.
 
 ghost use Rattle.std.specs.Prelude.{◌≡◌, ◌≢◌, ℕ, ◌-◌, ◌/◌, ◌≤◌, [], None, Err, min, option_map};
-ghost use Rattle.std.specs.Prelude.{OnErr, IfOk, IsOkAnd};
+ghost use Rattle.std.specs.Prelude.{OnErr, IfOk, IsOkAnd, true};
 ghost use Rattle.std.specs.Option.{option_copied};
 ghost use Rattle.lx_base.specs.declared.TheConstants.{SLOTS, TICK_END, TICK_STEP, UNIVERSES};
 ghost use Rattle.lx_io.specs.Causes.{HasCause, HasCauseOf};
@@ -19,6 +19,7 @@ ghost use Rattle.lx_mixer.specs.Table.{IsTable};
 ghost use Rattle.lx_console.specs.Slots.{universe};
 ghost use Rattle.lx_console.specs.ConsoleMeaning.{StandsFor, Obeys, Answers, level_now, out_now};
 ghost use Rattle.lx_console.specs.Ticks.{after_ticks};
+ghost use Rattle.lx_console.specs.WantedMemory.{may_lack_memory};
 
 use crate::kept_output::KeptOutput;
 use crate::player::{Applied, Player};
@@ -226,16 +227,19 @@ impl Console {
         requires { ValidCommand command.now }
         ensures answers { (d : Desk) → StandsFor d self.old → Answers d command.now result self.new }
         ensures unchanged { OnErr result (self.new ≡ self.old) }
+        ensures memory { result ≡ Err Refusal.Memory → may_lack_memory command.now ≡ true }
     {
         let mut heap = SystemHeap::new(self.allocator());
         self.command_in(&mut heap, command)
     }
 
-    /// The same, by a heap. An edit is refused with `Memory` only where the heap refused memory in this call. Keys and ticks take none.
+    /// The same, by a heap. An edit is refused with `Memory` only where the heap refused memory in this call. Keys and ticks take none, nor
+    /// does a new cue or a row of the patch.
     pub fn command_in<H: Heap>(&mut self, heap: &mut H, command: &Command) -> Result<(), Refusal>
         requires { ValidCommand command.now }
         ensures answers { (d : Desk) → StandsFor d self.old → Answers d command.now result self.new }
         ensures unchanged { OnErr result (self.new ≡ self.old) }
+        ensures memory { result ≡ Err Refusal.Memory → may_lack_memory command.now ≡ true }
         ensures cause { HasCauseOf Refusal.Memory (H.refusals heap.old) (H.refusals heap.new) result }
     {
         let change = self.player.command_in(heap, command)?;

@@ -1,7 +1,7 @@
 //! The player: a desk's state, with the levels that its playback gives.
 
 ghost use Rattle.std.specs.Prelude.{◌≡◌, ◌≢◌, ℕ, ◌+◌, ◌-◌, ◌/◌, ◌≤◌, [], None, Err, false, length, min, option_map, slice_set};
-ghost use Rattle.std.specs.Prelude.{OnOk, OnErr, IfOk, IfErr, IsOkAnd, IsTrue, IsFalse};
+ghost use Rattle.std.specs.Prelude.{OnOk, OnErr, IfOk, IfErr, IsOkAnd, IsTrue, IsFalse, true};
 ghost use Rattle.std.specs.Option.{option_copied};
 ghost use Rattle.lx_io.specs.Causes.{HasCause, HasCauseOf};
 ghost use Rattle.lx_base.specs.declared.TheConstants.{TICK_END, TICK_STEP};
@@ -19,11 +19,13 @@ ghost use Rattle.lx_spec.specs.TwoLists.{is_tick};
 ghost use Rattle.lx_playback.specs.QuietTicks.{moments_later};
 ghost use Rattle.lx_edit.specs.PlanMeaning.{IsReady, IsRefusal, planned};
 ghost use Rattle.lx_edit.specs.Undone.{TakesBack};
+ghost use Rattle.lx_edit.specs.WantedMemory.{takes_memory};
 ghost use Rattle.lx_mixer.specs.Table.{IsTable};
 ghost use Rattle.lx_subs.specs.Faders.{StandsForSubs};
 ghost use Rattle.lx_console.specs.Changes.{Changes};
 ghost use Rattle.lx_console.specs.ConsoleMeaning.{StandsFor, Obeys, Answers, level_now};
 ghost use Rattle.lx_console.specs.Ticks.{after_ticks};
+ghost use Rattle.lx_console.specs.WantedMemory.{may_lack_memory};
 
 use crate::change::Change;
 use crate::levels::{recompute_all, recompute_touched};
@@ -275,12 +277,14 @@ impl Player {
         ensures unchanged { OnErr result (self.new ≡ self.old) }
         ensures changes { IfOk result (λ change. Changes change self.old self.new) }
         ensures moment { is_tick command.now ≡ false → self.new.playback.moment ≡ self.old.playback.moment }
+        ensures memory { result ≡ Err Refusal.Memory → may_lack_memory command.now ≡ true }
     {
         let mut heap = SystemHeap::new(self.allocator());
         self.command_in(&mut heap, command)
     }
 
-    /// The same, by a heap. An edit is refused with `Memory` only where the heap refused memory in this call. Keys and ticks take none.
+    /// The same, by a heap. An edit is refused with `Memory` only where the heap refused memory in this call. Keys and ticks take none, nor
+    /// does a new cue or a row of the patch.
     pub fn command_in<H: Heap>(
         &mut self,
         heap: &mut H,
@@ -291,6 +295,7 @@ impl Player {
         ensures unchanged { OnErr result (self.new ≡ self.old) }
         ensures changes { IfOk result (λ change. Changes change self.old self.new) }
         ensures moment { is_tick command.now ≡ false → self.new.playback.moment ≡ self.old.playback.moment }
+        ensures memory { result ≡ Err Refusal.Memory → may_lack_memory command.now ≡ true }
         ensures cause { HasCauseOf Refusal.Memory (H.refusals heap.old) (H.refusals heap.new) result }
     {
         match command {
@@ -355,6 +360,7 @@ impl Player {
         ensures unchanged { OnErr result (self.new ≡ self.old) }
         ensures changes { IfOk result (λ change. Changes change self.old self.new) }
         ensures playback { self.new.playback ≡ self.old.playback }
+        ensures memory { result ≡ Err Refusal.Memory → takes_memory edit.now ≡ true }
         ensures cause { HasCauseOf Refusal.Memory (H.refusals heap.old) (H.refusals heap.new) result }
     {
         let plan = plan(heap, &self.show, edit)?;

@@ -1,6 +1,6 @@
 //! Two cue lists beside each other.
 
-ghost use Rattle.std.specs.Prelude.{◌≡◌, ◌≢◌, ℕ, ◌≤◌, false, Err, IfOk, IsTrue, OnErr};
+ghost use Rattle.std.specs.Prelude.{◌≡◌, ◌≢◌, ℕ, ◌≤◌, true, false, Err, IfOk, IsTrue, OnErr};
 ghost use Rattle.lx_base.specs.declared.TheConstants.{SLOTS, UNIVERSES};
 ghost use Rattle.lx_io.specs.Causes.{HasCause, HasCauseOf};
 ghost use Rattle.lx_spec.specs.ValidEdit.{ValidCommand};
@@ -11,6 +11,7 @@ ghost use Rattle.lx_spec.specs.TwoLists.{TwoDesks, opened_two, second_show, firs
 ghost use Rattle.lx_mixer.specs.Table.{IsTable};
 ghost use Rattle.lx_console.specs.Slots.{universe};
 ghost use Rattle.lx_console.specs.ConsoleMeaning.{StandsFor, Obeys};
+ghost use Rattle.lx_console.specs.WantedMemory.{may_lack_memory};
 ghost use Rattle.lx_lists.specs.TwoListsMeaning.{TwoStand, Steps, TakesStep, list_of, out_of_both};
 
 use crate::output::Output;
@@ -113,12 +114,14 @@ impl TwoLists {
             → TakesStep (is_edit command.now) (first_step s command.now) result self.new }
         ensures unchanged { OnErr result (self.new ≡ self.old) }
         ensures other { self.new.second ≡ self.old.second }
+        ensures memory { result ≡ Err Refusal.Memory → may_lack_memory command.now ≡ true }
     {
         let mut heap = SystemHeap::new(self.allocator());
         self.first_in(&mut heap, command)
     }
 
-    /// The same, by a heap. An edit is refused with `Memory` only where the heap refused memory in this call.
+    /// The same, by a heap. An edit is refused with `Memory` only where the heap refused memory in this call. Keys take none, nor does a new
+    /// cue or a row of the patch.
     pub fn first_in<H: Heap>(&mut self, heap: &mut H, command: &Command) -> Result<(), Refusal>
         requires valid { ValidCommand command.now }
         requires taken { is_tick command.now ≡ false }
@@ -126,6 +129,7 @@ impl TwoLists {
             → TakesStep (is_edit command.now) (first_step s command.now) result self.new }
         ensures unchanged { OnErr result (self.new ≡ self.old) }
         ensures other { self.new.second ≡ self.old.second }
+        ensures memory { result ≡ Err Refusal.Memory → may_lack_memory command.now ≡ true }
         ensures cause { HasCauseOf Refusal.Memory (H.refusals heap.old) (H.refusals heap.new) result }
     {
         let change = self.first.command_in(heap, command)?;
@@ -145,12 +149,14 @@ impl TwoLists {
             → TakesStep (is_edit command.now) (second_step s command.now) result self.new }
         ensures unchanged { OnErr result (self.new ≡ self.old) }
         ensures other { self.new.first ≡ self.old.first }
+        ensures memory { result ≡ Err Refusal.Memory → may_lack_memory command.now ≡ true }
     {
         let mut heap = SystemHeap::new(self.allocator());
         self.second_in(&mut heap, command)
     }
 
-    /// The same, by a heap. An edit is refused with `Memory` only where the heap refused memory in this call.
+    /// The same, by a heap. An edit is refused with `Memory` only where the heap refused memory in this call. Keys take none, nor does a new
+    /// cue or a row of the patch.
     pub fn second_in<H: Heap>(&mut self, heap: &mut H, command: &Command) -> Result<(), Refusal>
         requires valid { ValidCommand command.now }
         requires taken { IsTrue (commands_second command.now) }
@@ -158,6 +164,7 @@ impl TwoLists {
             → TakesStep (is_edit command.now) (second_step s command.now) result self.new }
         ensures unchanged { OnErr result (self.new ≡ self.old) }
         ensures other { self.new.first ≡ self.old.first }
+        ensures memory { result ≡ Err Refusal.Memory → may_lack_memory command.now ≡ true }
         ensures cause { HasCauseOf Refusal.Memory (H.refusals heap.old) (H.refusals heap.new) result }
     {
         let change = self.second.command_in(heap, command)?;

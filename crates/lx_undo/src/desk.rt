@@ -1,11 +1,13 @@
 //! The desk with its history.
 
-ghost use Rattle.std.specs.Prelude.{◌≡◌, ◌≢◌, true, IfOk, OnErr};
+ghost use Rattle.std.specs.Prelude.{◌≡◌, ◌≢◌, true, Err, IfOk, OnErr};
 ghost use Rattle.lx_io.specs.Causes.{HasCause, HasCauseOf};
 ghost use Rattle.lx_spec.specs.ValidEdit.{ValidCommand, ValidEdit};
 ghost use Rattle.lx_spec.specs.Desk.{is_edit};
 ghost use Rattle.lx_spec.specs.Undo.{UndoState, opened_with, with_show, replaced, undo_step, record_step, undo, redo};
 ghost use Rattle.lx_edit.specs.PlanMeaning.{IsReady, planned};
+ghost use Rattle.lx_edit.specs.WantedMemory.{takes_memory};
+ghost use Rattle.lx_console.specs.WantedMemory.{may_lack_memory};
 ghost use Rattle.lx_undo.specs.UndoDeskMeaning.{UndoStands, UndoSteps, TakesUndoStep};
 
 use crate::history::UndoPlans;
@@ -76,17 +78,20 @@ impl UndoDesk {
         ensures steps { (s : UndoState) → UndoStands s self.old
             → TakesUndoStep (is_edit command.now) (undo_step s command.now) result self.new }
         ensures unchanged { OnErr result (self.new ≡ self.old) }
+        ensures memory { result ≡ Err Refusal.Memory → may_lack_memory command.now ≡ true }
     {
         let mut heap = SystemHeap::new(self.console().allocator());
         self.command_in(&mut heap, command)
     }
 
-    /// The same, by a heap. An edit is refused with `Memory` only where the heap refused memory in this call. Keys and ticks take none.
+    /// The same, by a heap. An edit is refused with `Memory` only where the heap refused memory in this call. Keys and ticks take none, nor
+    /// does a new cue or a row of the patch.
     pub fn command_in<H: Heap>(&mut self, heap: &mut H, command: &Command) -> Result<(), Refusal>
         requires { ValidCommand command.now }
         ensures steps { (s : UndoState) → UndoStands s self.old
             → TakesUndoStep (is_edit command.now) (undo_step s command.now) result self.new }
         ensures unchanged { OnErr result (self.new ≡ self.old) }
+        ensures memory { result ≡ Err Refusal.Memory → may_lack_memory command.now ≡ true }
         ensures cause { HasCauseOf Refusal.Memory (H.refusals heap.old) (H.refusals heap.new) result }
     {
         match command {
@@ -100,6 +105,7 @@ impl UndoDesk {
         requires { ValidEdit edit.now }
         ensures steps { (s : UndoState) → UndoStands s self.old → TakesUndoStep true (undo_step s (Command.Edit edit.now)) result self.new }
         ensures unchanged { OnErr result (self.new ≡ self.old) }
+        ensures memory { result ≡ Err Refusal.Memory → takes_memory edit.now ≡ true }
         ensures cause { HasCauseOf Refusal.Memory (H.refusals heap.old) (H.refusals heap.new) result }
     {
         let plan = plan(heap, self.console.show(), edit)?;

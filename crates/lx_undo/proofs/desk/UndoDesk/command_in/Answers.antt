@@ -28,5 +28,6 @@ returns-in_default g c =
           }) (c.command_in.ensures.answers s.desk stood.desk);
       unchanged = unchanged_with c.command_in.result c.self.inside.console c.command_in.new.self plans c.args.self.now
           c.command_in.ensures.unchanged c.self.view_is;
+      memory = c.command_in.ensures.memory;
       cause = c.command_in.ensures.cause;
     }
