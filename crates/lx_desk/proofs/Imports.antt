@@ -15,7 +15,7 @@ pub use Rattle.lx_desk.specs.Faults.{status_for}
 pub use Rattle.lx_desk.specs.Finished.{Finishes, HasWanted, IsDone, WantsMemory}
 pub use Rattle.lx_desk.specs.Generator.{after_cue, after_setting, after_turn, chan_text, drawn_cue, drawn_cue_text, made_show, set_text, setting_from}
 pub use Rattle.lx_desk.specs.Generator.{turn_from, turn_text}
-pub use Rattle.lx_desk.specs.Live.{ArePlayed, AreServed, DecidesInOrder, HasFailedOutlet, HasLiveCause, HasLived, HasPlayedLive, HaveGot, HaveVersions}
+pub use Rattle.lx_desk.specs.Live.{AmpleMemory, any_memory, ArePlayed, AreServed, DecidesInOrder, HasFailedOutlet, HasLiveCause, HasLived, HasPlayedLive, HaveGot, HaveVersions}
 pub use Rattle.lx_desk.specs.Live.{LacksMemory, live_after, live_session, LiveAllows, LivesInFront, LivesTaken, LivesToEnd, OutletFailed, PlaysInFront}
 pub use Rattle.lx_desk.specs.Live.{OutletsFinish, OutletWanted, PlaysScript, PlaysTaken, PlaysToEnd, PlaysWhole, TellsOutlets, TellsRun, WantsLive}
 pub use Rattle.lx_desk.specs.Output.{AnswersInFront, AnswersScript, AnswersTaken, JobFailures, NothingOfCut, RepliesToTaken, ScriptFailures, WritesAll}

@@ -6,7 +6,7 @@ use Rattle.lx_desk.proofs.Imports.{TextFault, desk_lawful, front_of_whole, Scrip
 use Rattle.lx_desk.proofs.Imports.{script_of, lines_read, first_replies, input_lines_wanted, input_wanted, script_output, ScriptAllows, begin_at}
 use Rattle.lx_desk.proofs.Imports.{answered_lines, lines_wanted, bytes_wanted, begun, desk_answering, Show, Loaded, ShowFault, reading_of, HasRead, Status}
 use Rattle.lx_desk.proofs.Imports.{WritesPrefix, RepliesToTaken, RefusedBy, EndsJob, HasEnded, live_session, live_after, LiveAllows, HaveVersions, PlaysScript}
-use Rattle.lx_desk.proofs.Imports.{AreServed, PlaysInFront, PlaysTaken, HasPlayedLive, PlaysWhole, LivesInFront, LivesTaken, HasLived, PlaysToEnd, LivesToEnd}
+use Rattle.lx_desk.proofs.Imports.{AmpleMemory, AreServed, PlaysInFront, PlaysTaken, HasPlayedLive, PlaysWhole, LivesInFront, LivesTaken, HasLived, PlaysToEnd, LivesToEnd}
 use Rattle.lx_desk.proofs.Imports.{LacksMemory, HasFailedOutlet, DecidesInOrder, HasWanted, ToldBySink, ToldBySource}
 use Rattle.lx_desk.specs.declared.desk.Status.TheVariants as status
 use Rattle.lx_desk.proofs.Imports.{Check, IsErr, NothingOfCut, status_kept}
@@ -22,20 +22,20 @@ no_write fault kept = kept_is fault status.WriteFault (λ f t. t ≡ status.Writ
     (λ is. absurd cc) refl
 
 -- Of a show whose levels are read in this form, for this many universes, in a run whose memory was ample, or may not have been.
-module _ (ample : Bool) (form : Form) (universes : ℕ) where
+module _ (ample : AmpleMemory) (form : Form) (universes : ℕ) where
   live_allows : (x : List ℕ) (failures : List (Option ℕ)) (r : Result Reading TextFault) → ScriptAllows (Live universes) x failures r
   live_allows x failures (Ok reading) = each_allowed failures (begin_at (begun (opened reading.show))) (answered_lines (script_of x))
   live_allows x failures (Err fault) = tt
 
   whole_at : {K : Type 0} (told : ToldBySink K) (x y : List ℕ) (reading : Reading) (h h' : Option (List ℕ))
       (outlets outlets' : List (Option K)) → reads form x ≡ Ok reading → script_of x ≡ lines_of y
-      → length (input_wanted form x) ≤ INPUT_BYTES → PlaysScript ample told reading.show universes (lines_of y) h h' outlets outlets'
-      → PlaysWhole ample told universes form x h h' outlets outlets'
+      → length (input_wanted form x) ≤ INPUT_BYTES → PlaysScript ample.edits told reading.show universes (lines_of y) h h' outlets outlets'
+      → PlaysWhole ample.edits told universes form x h h' outlets outlets'
   whole_at told x y reading h h' outlets outlets' read script fits a = record {
     reading = reading;
     read = read;
     failures = a.failures;
-    allows = subst (λ (ls : List (List ℕ)). LiveAllows ample reading.show ls a.failures (live_session reading.show ls a.failures).state.accepted)
+    allows = subst (λ (ls : List (List ℕ)). LiveAllows ample.edits reading.show ls a.failures (live_session reading.show ls a.failures).state.accepted)
         (sym script) a.allows;
     text = subst (λ (ls : List (List ℕ)). Appends h h' (live_session reading.show ls a.failures).text) (sym script) a.text;
     versions = subst (λ (ls : List (List ℕ)). HaveVersions told reading.show universes outlets outlets'
@@ -94,15 +94,15 @@ module _ (ample : Bool) (form : Form) (universes : ℕ) where
             let s = ap lines_wanted script in
             let m = a.short in
             omega (arith, s, m, shown);
-        allows = subst (λ (k : ℕ). LiveAllows ample reading.show (script_of x) a.failures
+        allows = subst (λ (k : ℕ). LiveAllows ample.edits reading.show (script_of x) a.failures
             (live_after reading.show (script_of x) a.failures k).state.accepted) done
-            (subst (λ (ls : List (List ℕ)). LiveAllows ample reading.show ls a.failures
+            (subst (λ (ls : List (List ℕ)). LiveAllows ample.edits reading.show ls a.failures
             (live_after reading.show ls a.failures n).state.accepted) (sym script) a.allows);
         text = subst (λ (k : ℕ). Appends h h' (live_after reading.show (script_of x) a.failures k).text) done
             (subst (λ (ls : List (List ℕ)). Appends h h' (live_after reading.show ls a.failures n).text) (sym script) a.text);
-        served = subst (λ (k : ℕ). AreServed told reading.show universes outlets outlets'
+        served = subst (λ (k : ℕ). AreServed ample.versions told reading.show universes outlets outlets'
             (live_after reading.show (script_of x) a.failures k).state.accepted) done
-            (subst (λ (ls : List (List ℕ)). AreServed told reading.show universes outlets outlets'
+            (subst (λ (ls : List (List ℕ)). AreServed ample.versions told reading.show universes outlets outlets'
             (live_after reading.show ls a.failures n).state.accepted) (sym script) a.served);
       }
 
@@ -136,8 +136,8 @@ module _ (ample : Bool) (form : Form) (universes : ℕ) where
       → IfSome o (λ x. HasLived ample s told universes form x rest h h' outlets outlets')
   live_ended told_in told a b loaded o rest h h' outlets outlets' status.Ok is none r p =
       both_known o _ _ _ (session_fits form told_in a b loaded o is none r (if_known (unread told_in b) _ _ p (λ y q. q.1)))
-      (over_loaded form told_in a b loaded o (λ y. PlaysScript ample told loaded.show universes (lines_of y) h h' outlets outlets')
-      (λ x. length (input_wanted form x) ≤ INPUT_BYTES → PlaysWhole ample told universes form x h h' outlets outlets') is r
+      (over_loaded form told_in a b loaded o (λ y. PlaysScript ample.edits told loaded.show universes (lines_of y) h h' outlets outlets')
+      (λ x. length (input_wanted form x) ≤ INPUT_BYTES → PlaysWhole ample.edits told universes form x h h' outlets outlets') is r
       (if_known (unread told_in b) _ _ p (λ y q. q.0))
       (λ x y raws took shown text script q fits. whole_at told x y (reading_of loaded) h h' outlets outlets' text script fits q))
       (λ x fits f. f fits)
@@ -250,7 +250,7 @@ module _ (ample : Bool) (form : Form) (universes : ℕ) where
       (λ x e unread. refused_at told x (told_in.left b.source.now) h h' outlets fault s by e unread)
 
 -- In which order the faults of a live run are told, over a show that was read.
-module _ (ample : Bool) (form : Form) (universes : ℕ) {O K : Type 0} (told : ToldBySink K)
+module _ (ample : AmpleMemory) (form : Form) (universes : ℕ) {O K : Type 0} (told : ToldBySink K)
     (told_out : ToldBySink O) (output output' : O) (h h' : Option (List ℕ)) (outlets outlets' : List (Option K)) where
   abbrev ToEnd : Show → List ℕ → ℕ → (List (Option SinkFault) → ℕ → Type 0) → Type 0
   ToEnd show bytes before Told = PlaysToEnd ample Told told show universes (lines_of bytes) h h' outlets outlets'

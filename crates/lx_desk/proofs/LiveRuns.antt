@@ -5,7 +5,7 @@ use Rattle.lx_desk.proofs.Imports.{append-nil, take_all, ◌+◌, OnOk, INPUT_BY
 use Rattle.lx_desk.proofs.Imports.{Kept, Answering, Session, begin_at, after_each, answered_lines, Allows, bytes_wanted, DeskState, begun, desk_answering}
 use Rattle.lx_desk.proofs.Imports.{StandsFor, SessionFault, Tally, HasDone, AnsweredWhole, AnsweredPrefix, AnsweredTaken, ScriptAnswered, KeepsLimit}
 use Rattle.lx_desk.proofs.Imports.{HasSessionCause, IsFull, Status, status_for, HasCauseOf, live_session, LiveAllows, HaveVersions, PlaysScript, HaveGot}
-use Rattle.lx_desk.proofs.Imports.{AreServed, PlaysInFront, PlaysTaken, HasPlayedLive, ArePlayed, OutletFailed, PlaysToEnd, LacksMemory, HasFailedOutlet}
+use Rattle.lx_desk.proofs.Imports.{AmpleMemory, AreServed, PlaysInFront, PlaysTaken, HasPlayedLive, ArePlayed, OutletFailed, PlaysToEnd, LacksMemory, HasFailedOutlet}
 use Rattle.lx_desk.proofs.Imports.{DecidesInOrder, Finishes, HasLiveCause, TellsOutlets, TellsRun, Appends, AppendsFront, ToldBySink, ToldBySource}
 use Rattle.std.specs.Prelude.{◌&&◌}
 use Rattle.lx_desk.proofs.Imports.{◌-◌, AppendsAtLeast, desk_lawful, more_of_whole}
@@ -129,16 +129,17 @@ is_live ample show published unsent console script lines failures allows done =
     }
 
 -- What was played, as it is told: over a show, for this many universes.
-module _ {K : Type 0} (ample : Bool) (told : ToldBySink K) (show : Show) (universes : ℕ)
-    (outlets outlets' : List (Option K)) (published unsent : List Command) (got : HaveGot told show universes outlets outlets' published) where
-  served : (commands : List Command) → commands ≡ published ++ unsent → AreServed told show universes outlets outlets' commands
-  served commands is = record { published = published; held_back = unsent; commands_are = is; got = got }
+module _ {K : Type 0} (ample : AmpleMemory) (told : ToldBySink K) (show : Show) (universes : ℕ)
+    (outlets outlets' : List (Option K)) (published unsent : List Command) (got : HaveGot told show universes outlets outlets' published)
+    (all : ample.versions ≡ true → unsent ≡ []) where
+  served : (commands : List Command) → commands ≡ published ++ unsent → AreServed ample.versions told show universes outlets outlets' commands
+  served commands is = record { published = published; held_back = unsent; commands_are = is; all_published = all; got = got }
 
   in_front : (bytes : List ℕ) (unread held held' : Option (List ℕ)) (console : Kept)
-      → AnsweredPrefix (engine_of ample published unsent) (Done show published unsent console) (begun (opened show)) bytes unread held held'
+      → AnsweredPrefix (engine_of ample.edits published unsent) (Done show published unsent console) (begun (opened show)) bytes unread held held'
       → PlaysInFront ample told show universes (lines_of bytes) held held' outlets outlets'
   in_front bytes unread held held' console a =
-      let live = is_live ample show published unsent console (lines_of bytes) (take a.lines (answered_lines (lines_of bytes))) a.failures a.allows
+      let live = is_live ample.edits show published unsent console (lines_of bytes) (take a.lines (answered_lines (lines_of bytes))) a.failures a.allows
       a.stands in
       record {
         failures = a.failures;
@@ -146,23 +147,23 @@ module _ {K : Type 0} (ample : Bool) (told : ToldBySink K) (show : Show) (univer
         allows = live.allows;
         text = subst (λ (s : Session DeskState). AppendsFront held held' s.text) live.same a.text;
         earlier = subst (λ (s : Session DeskState). AppendsAtLeast held held' s.text)
-            (same_over ample published unsent show a.failures (take (a.lines - 1) (answered_lines (lines_of bytes)))) a.earlier;
+            (same_over ample.edits published unsent show a.failures (take (a.lines - 1) (answered_lines (lines_of bytes)))) a.earlier;
         served = served _ live.accepted;
       }
 
   whole_in_front : (script : List (List ℕ)) (held held' : Option (List ℕ)) (console : Kept) (tally : Tally)
-      → AnsweredWhole (engine_of ample published unsent) (Done show published unsent console) (begun (opened show)) script held held' tally
+      → AnsweredWhole (engine_of ample.edits published unsent) (Done show published unsent console) (begun (opened show)) script held held' tally
       → PlaysInFront ample told show universes script held held' outlets outlets'
   whole_in_front script held held' console tally a =
       let lines = answered_lines script in
-      let live = is_live ample show published unsent console script lines a.failures a.allows a.stands in
+      let live = is_live ample.edits show published unsent console script lines a.failures a.allows a.stands in
       let all : lines ≡ take (length lines) lines = sym (take_all (length lines) lines (omega arith)) in
       let text = subst (λ (s : Session DeskState). Appends held held' s.text) live.same a.text in
       let more = more_of_whole (desk_answering false) (desk_lawful false) (begun (opened show)) script a.failures (length lines - 1) in
       record {
         failures = a.failures;
         lines = length lines;
-        allows = subst (λ (ls : List (List ℕ)). LiveAllows ample show script a.failures (live_over show a.failures ls).state.accepted) all live.allows;
+        allows = subst (λ (ls : List (List ℕ)). LiveAllows ample.edits show script a.failures (live_over show a.failures ls).state.accepted) all live.allows;
         text = subst (λ (ls : List (List ℕ)). AppendsFront held held' (live_over show a.failures ls).text) all
             (whole_front held held' (live_session show script a.failures).text text);
         earlier = (more.0, subst (λ (v : List ℕ). Appends held held' v) more.1 text);
@@ -170,10 +171,10 @@ module _ {K : Type 0} (ample : Bool) (told : ToldBySink K) (show : Show) (univer
       }
 
   taken_of : (before : ℕ) (bytes : List ℕ) (left held held' : Option (List ℕ)) (console : Kept)
-      → AnsweredTaken (engine_of ample published unsent) (Done show published unsent console) (begun (opened show)) before bytes left held held'
+      → AnsweredTaken (engine_of ample.edits published unsent) (Done show published unsent console) (begun (opened show)) before bytes left held held'
       → PlaysTaken ample told show universes before bytes left held held' outlets outlets'
   taken_of before bytes left held held' console a =
-      let live = is_live ample show published unsent console (lines_of bytes) (take a.cut.lines (answered_lines (lines_of bytes))) a.failures
+      let live = is_live ample.edits show published unsent console (lines_of bytes) (take a.cut.lines (answered_lines (lines_of bytes))) a.failures
       a.allows a.stands in
       record {
         failures = a.failures;
@@ -186,7 +187,7 @@ module _ {K : Type 0} (ample : Bool) (told : ToldBySink K) (show : Show) (univer
 
   -- how a session that was played ended by a fault, by its status
   live_fault : (before : ℕ) (bytes : List ℕ) (unread left held held' : Option (List ℕ)) (console : Kept) (fault : SessionFault)
-      → HasAnswered ample show published unsent console before bytes unread left held held' (Err fault)
+      → HasAnswered ample.edits show published unsent console before bytes unread left held held' (Err fault)
       → KeepsLimit before bytes (Err fault)
       → HasPlayedLive ample (status_for {A = Tally} (Err fault)) told show universes before bytes left held held' outlets outlets'
   live_fault before bytes unread left held held' console faults.ReadFault a limit = taken_of before bytes left held held' console a
@@ -198,6 +199,11 @@ module _ {K : Type 0} (ample : Bool) (told : ToldBySink K) (show : Show) (univer
 none_held : (published unsent : List Command) (n : ℕ) → n ≡ length unsent → n ≡ 0 → published ++ unsent ≡ published
 none_held published [] n is none = append-nil published
 none_held published (command ∷ unsent) n is none = absurd (omega (arith, is, none))
+
+-- where none is unsent, all are published
+none_unsent : (unsent : List Command) (n : ℕ) → n ≡ length unsent → n ≡ 0 → unsent ≡ []
+none_unsent [] n is none = refl
+none_unsent (command ∷ unsent) n is none = absurd (omega (arith, is, none))
 
 -- where all outlets had what they were to get
 plays : {K : Type 0} (ample : Bool) (told : ToldBySink K) (show : Show) (universes : ℕ) (script : List (List ℕ))
@@ -231,26 +237,30 @@ session_order told_in told old new output output' outlets outlets' ToEnd faults.
 session_order told_in told old new output output' outlets outlets' ToEnd faults.Memory c = inl (inr c.failed)
 
 -- how a session that was played ended, by its status
-module _ {K : Type 0} (ample : Bool) (outlet_told : ToldBySink K) (show : Show) (universes before : ℕ)
+module _ {K : Type 0} (ample : AmpleMemory) (outlet_told : ToldBySink K) (show : Show) (universes before : ℕ)
     (outlets used used' rest : List (Option K)) (results : List (Option SinkFault)) (published unsent : List Command) (n : ℕ)
     (is : used ≡ take universes outlets) (count : length used ≡ universes) (behind : rest ≡ drop universes outlets)
-    (counted : n ≡ length unsent) (d : AreDelivered outlet_told show used used' results published) where
+    (counted : n ≡ length unsent) (d : AreDelivered outlet_told show used used' results published)
+    (sent : ample.versions ≡ true → n ≡ 0) where
+  all : ample.versions ≡ true → unsent ≡ []
+  all known = none_unsent unsent n counted (sent known)
+
   abbrev got : HaveGot outlet_told show universes outlets (used' ++ rest) published
   got = have_got outlet_told show universes outlets used used' rest results published is count behind d
 
   whole : (bytes : List ℕ) (held held' : Option (List ℕ)) (console : Kept) (tally : Tally)
-      → AnsweredWhole (engine_of ample published unsent) (Done show published unsent console) (begun (opened show)) (lines_of bytes) held held' tally
+      → AnsweredWhole (engine_of ample.edits published unsent) (Done show published unsent console) (begun (opened show)) (lines_of bytes) held held' tally
       → PlaysInFront ample outlet_told show universes (lines_of bytes) held held' outlets (used' ++ rest)
   whole bytes held held' console tally a =
-      whole_in_front ample outlet_told show universes outlets (used' ++ rest) published unsent got (lines_of bytes) held held' console
+      whole_in_front ample outlet_told show universes outlets (used' ++ rest) published unsent got all (lines_of bytes) held held' console
       tally a
 
   live_at : (bytes : List ℕ) (unread left held held' : Option (List ℕ)) (console : Kept) (session : Result Tally SessionFault) (s : Status)
       → TellsRun session results n s
-      → HasAnswered ample show published unsent console before bytes unread left held held' session
+      → HasAnswered ample.edits show published unsent console before bytes unread left held held' session
       → KeepsLimit before bytes session → HasPlayedLive ample s outlet_told show universes before bytes left held held' outlets (used' ++ rest)
   live_at bytes unread left held held' console (Ok tally) status.Ok tells a limit = (
-    plays ample outlet_told show universes (lines_of bytes) held held' outlets used used' rest results published unsent n console
+    plays ample.edits outlet_told show universes (lines_of bytes) held held' outlets used used' rest results published unsent n console
         tally is count counted d a tells,
     limit,
   )
@@ -263,13 +273,13 @@ module _ {K : Type 0} (ample : Bool) (outlet_told : ToldBySink K) (show : Show) 
   live_at bytes unread left held held' console (Ok tally) status.Live tells a limit = absurd tells
   live_at bytes unread left held held' console (Err fault) s tells a limit =
       subst (λ (t : Status). HasPlayedLive ample t outlet_told show universes before bytes left held held' outlets (used' ++ rest)) (sym tells)
-      (live_fault ample outlet_told show universes outlets (used' ++ rest) published unsent got before bytes unread left held held'
+      (live_fault ample outlet_told show universes outlets (used' ++ rest) published unsent got all before bytes unread left held held'
       console fault a limit)
 
   -- the same, where the source may tell no bytes
   pub has_played_live : (o unread left held held' : Option (List ℕ)) (console : Kept) (session : Result Tally SessionFault) (s : Status)
       → TellsRun session results n s
-      → IfSome o (λ bytes. HasAnswered ample show published unsent console before bytes unread left held held' session)
+      → IfSome o (λ bytes. HasAnswered ample.edits show published unsent console before bytes unread left held held' session)
       → IfSome o (λ bytes. KeepsLimit before bytes session)
       → IfSome o (λ bytes. HasPlayedLive ample s outlet_told show universes before bytes left held held' outlets (used' ++ rest))
   has_played_live o unread left held held' console session s tells a limit =
@@ -277,22 +287,22 @@ module _ {K : Type 0} (ample : Bool) (outlet_told : ToldBySink K) (show : Show) 
 
   -- and in which order its faults are told
   to_end : (Told : List (Option SinkFault) → ℕ → Type 0) (bytes : List ℕ) (held held' : Option (List ℕ)) (console : Kept) (tally : Tally)
-      → AnsweredWhole (engine_of ample published unsent) (Done show published unsent console) (begun (opened show)) (lines_of bytes) held held' tally
+      → AnsweredWhole (engine_of ample.edits published unsent) (Done show published unsent console) (begun (opened show)) (lines_of bytes) held held' tally
       → Told results (length unsent) → PlaysToEnd ample Told outlet_told show universes (lines_of bytes) held held' outlets (used' ++ rest)
   to_end Told bytes held held' console tally a told =
-      let live = is_live ample show published unsent console (lines_of bytes) (answered_lines (lines_of bytes)) a.failures a.allows a.stands in
+      let live = is_live ample.edits show published unsent console (lines_of bytes) (answered_lines (lines_of bytes)) a.failures a.allows a.stands in
       record {
         failures = a.failures;
         allows = live.allows;
         text = subst (λ (s : Session DeskState). Appends held held' s.text) live.same a.text;
-        served = record { published = published; held_back = unsent; commands_are = live.accepted; got = got };
+        served = record { published = published; held_back = unsent; commands_are = live.accepted; all_published = all; got = got };
         told = told;
       }
 
   order_at : {S O : Type 0} (told_in : ToldBySource S) (told_out : ToldBySink O) (old new : Lines S) (output output' : O) (bytes : List ℕ)
       (unread left held held' : Option (List ℕ)) (console : Kept) (session : Result Tally SessionFault) (s : Status)
       → TellsRun session results n s
-      → HasAnswered ample show published unsent console before bytes unread left held held' session
+      → HasAnswered ample.edits show published unsent console before bytes unread left held held' session
       → KeepsLimit before bytes session → HasSessionCause told_in told_out old new output output' session
       → OnOk session (told_out.back output' ≡ [])
       → DecidesInOrder s (told_in.faults old.source.now) (told_in.faults new.source.now) told_out output output' outlets (used' ++ rest)
@@ -327,7 +337,7 @@ module _ {K : Type 0} (ample : Bool) (outlet_told : ToldBySink K) (show : Show) 
   pub in_order : {S O : Type 0} (told_in : ToldBySource S) (told_out : ToldBySink O) (old new : Lines S) (output output' : O)
       (o unread left held held' : Option (List ℕ)) (console : Kept) (session : Result Tally SessionFault) (s : Status)
       → TellsRun session results n s
-      → IfSome o (λ bytes. HasAnswered ample show published unsent console before bytes unread left held held' session)
+      → IfSome o (λ bytes. HasAnswered ample.edits show published unsent console before bytes unread left held held' session)
       → IfSome o (λ bytes. KeepsLimit before bytes session) → HasSessionCause told_in told_out old new output output' session
       → OnOk session (told_out.back output' ≡ [])
       → IfSome o (λ bytes. DecidesInOrder s (told_in.faults old.source.now) (told_in.faults new.source.now) told_out output output' outlets
@@ -349,7 +359,7 @@ run_finishes told_in told_out old new output output' (Err fault) results n s tel
     (session_finishes told_in told_out old new output output' (Err fault) c none)
 
 -- where memory was wanted at the opening, nothing was read
-pub none_played : {K : Type 0} (ample : Bool) (told : ToldBySink K) (show : Show) (universes before : ℕ)
+pub none_played : {K : Type 0} (ample : AmpleMemory) (told : ToldBySink K) (show : Show) (universes before : ℕ)
     (o left held held' : Option (List ℕ)) (outlets outlets' : List (Option K)) → held' ≡ held → outlets' ≡ outlets
     → IfSome o (λ bytes. HasPlayedLive ample status.Memory told show universes before bytes left held held' outlets outlets')
 none_played ample told show universes before None left held held' outlets outlets' same kept = tt

@@ -1,5 +1,5 @@
 -- What a live run of the program comes to, and what its outlets have.
-use Rattle.std.specs.Prelude.{◌≡◌, ◌⊎◌, ◌≢◌, ℕ, ◌+◌, ◌-◌, ◌<◌, ◌≤◌, Bool, false, Option, Some, None, IfSome, Result, Ok, Err, IsOk, IsErr}
+use Rattle.std.specs.Prelude.{◌≡◌, ◌⊎◌, ◌≢◌, ℕ, ◌+◌, ◌-◌, ◌<◌, ◌≤◌, Bool, true, false, Option, Some, None, IfSome, Result, Ok, Err, IsOk, IsErr}
 use Rattle.std.specs.Prelude.{List, [], ◌++◌, length, take, drop, slice_get}
 use Rattle.std.specs.Io.KnownBytes.{Appends}
 use Rattle.lx_base.specs.declared.TheConstants.{INPUT_BYTES}
@@ -25,6 +25,7 @@ use Rattle.lx_workers.specs.Works.{HasAll}
 use Rattle.lx_workers.specs.Engines.{engine_answering}
 use Rattle.lx_workers.specs.LiveOutcome.{AreDelivered}
 use Rattle.lx_session.specs.Known.{AppendsAtLeast, Known}
+use Rattle.lx_session.specs.Spared.{HasStood}
 use Rattle.lx_session.specs.declared.fault.SessionFault.{SessionFault}
 use Rattle.lx_session.specs.declared.tally.Tally.{Tally}
 use Rattle.lx_desk.specs.declared.desk.Status.{Status}
@@ -39,6 +40,21 @@ live_session show script failures = whole_session (desk_answering false) (begun 
 
 abbrev pub live_after : Show → List (List ℕ) → List (Option ℕ) → ℕ → Session DeskState
 live_after show script failures lines = session_after (desk_answering false) (begun (opened show)) script failures lines
+
+-- What of a live run's memory is known to have been ample: that of its edits, and that of the versions that it publishes.
+pub record AmpleMemory : Type 0 where
+  pub edits : Bool
+  pub versions : Bool
+
+-- of neither is it known
+abbrev pub any_memory : AmpleMemory
+any_memory = record { edits = false; versions = false }
+
+-- What holds, whichever of them is known: that of edits was ample where the heap refused nothing, and that of versions where the writer's
+-- heap refused nothing.
+abbrev pub ByLiveMemory : (refusals refusals' writers writers' : ℕ) → (AmpleMemory → Type 0) → Type 0
+ByLiveMemory refusals refusals' writers writers' P =
+    (ample : AmpleMemory) → (ample.edits ≡ true → HasStood refusals refusals') → (ample.versions ≡ true → HasStood writers writers') → P ample
 
 -- As long as fewer than 2^62 commands were accepted attempts failed only at edits that the desk accepts, and where memory was ample none did.
 abbrev pub LiveAllows : (ample : Bool) → Show → List (List ℕ) → List (Option ℕ) → (accepted : List Command) → Type 0
@@ -73,40 +89,41 @@ pub record HaveGot {K : Type 0} (told : ToldBySink K) (show : Show) (universes :
   pub delivered : AreDelivered told show (take universes outlets) (take universes outlets') results published
   pub rest : drop universes outlets' ≡ drop universes outlets
 
--- all but the last n of these commands were published, and the outlets got what they were to get of these
-pub record AreServed {K : Type 0} (told : ToldBySink K) (show : Show) (universes : ℕ)
+-- All but some last ones of these commands were published, and the outlets got what they were to get of these; `all` says that none was left.
+pub record AreServed {K : Type 0} (all : Bool) (told : ToldBySink K) (show : Show) (universes : ℕ)
     (outlets outlets' : List (Option K)) (commands : List Command) : Type 0 where
   pub published : List Command
   pub held_back : List Command
   pub commands_are : commands ≡ published ++ held_back
+  pub all_published : all ≡ true → held_back ≡ []
   pub got : HaveGot told show universes outlets outlets' published
 
 -- Up to this many lines of a script were answered, by a prefix of the replies, in which those to all of them but the last are whole; and the
 -- outlets got what was published of the commands that these lines came to.
-pub record PlaysInFront {K : Type 0} (ample : Bool) (told : ToldBySink K) (show : Show) (universes : ℕ)
+pub record PlaysInFront {K : Type 0} (ample : AmpleMemory) (told : ToldBySink K) (show : Show) (universes : ℕ)
     (script : List (List ℕ)) (held held' : Known) (outlets outlets' : List (Option K)) : Type 0 where
   pub failures : List (Option ℕ)
   pub lines : ℕ
-  pub allows : LiveAllows ample show script failures (live_after show script failures lines).state.accepted
+  pub allows : LiveAllows ample.edits show script failures (live_after show script failures lines).state.accepted
   pub text : AppendsFront held held' (live_after show script failures lines).text
   pub earlier : AppendsAtLeast held held' (live_after show script failures (lines - 1)).text
-  pub served : AreServed told show universes outlets outlets' (live_after show script failures lines).state.accepted
+  pub served : AreServed ample.versions told show universes outlets outlets' (live_after show script failures lines).state.accepted
 
 -- The lines that were taken whole were answered, and the outlets got what was published of the commands that these lines came to.
-pub record PlaysTaken {K : Type 0} (ample : Bool) (told : ToldBySink K) (show : Show) (universes before : ℕ)
+pub record PlaysTaken {K : Type 0} (ample : AmpleMemory) (told : ToldBySink K) (show : Show) (universes before : ℕ)
     (bytes : List ℕ) (left held held' : Known) (outlets outlets' : List (Option K)) : Type 0 where
   pub failures : List (Option ℕ)
   pub cut : CutOff before bytes left
   pub short : cut.lines < lines_wanted (lines_of bytes)
-  pub allows : LiveAllows ample show (lines_of bytes) failures (live_after show (lines_of bytes) failures cut.lines).state.accepted
+  pub allows : LiveAllows ample.edits show (lines_of bytes) failures (live_after show (lines_of bytes) failures cut.lines).state.accepted
   pub text : Appends held held' (live_after show (lines_of bytes) failures cut.lines).text
-  pub served : AreServed told show universes outlets outlets' (live_after show (lines_of bytes) failures cut.lines).state.accepted
+  pub served : AreServed ample.versions told show universes outlets outlets' (live_after show (lines_of bytes) failures cut.lines).state.accepted
 
 -- how a script over a show ended that was played live, before which this many bytes of the input were taken
-abbrev pub HasPlayedLive : {K : Type 0} → (ample : Bool) → Status → ToldBySink K → Show → (universes before : ℕ) → List ℕ
+abbrev pub HasPlayedLive : {K : Type 0} → (ample : AmpleMemory) → Status → ToldBySink K → Show → (universes before : ℕ) → List ℕ
     → (left held held' : Known) → (outlets outlets' : List (Option K)) → Type 0
 HasPlayedLive ample status.Ok told show universes before bytes left held held' outlets outlets' =
-    PlaysScript ample told show universes (lines_of bytes) held held' outlets outlets'
+    PlaysScript ample.edits told show universes (lines_of bytes) held held' outlets outlets'
     × (before + length (bytes_wanted bytes) ≤ INPUT_BYTES)
 HasPlayedLive ample status.ReadFault told show universes before bytes left held held' outlets outlets' =
     PlaysTaken ample told show universes before bytes left held held' outlets outlets'
@@ -134,7 +151,7 @@ pub record PlaysWhole {K : Type 0} (ample : Bool) (told : ToldBySink K) (univers
 
 -- The show was read, up to this many lines of its script were answered, by a prefix of the replies, and the outlets got what was published
 -- of the commands that these lines came to.
-pub record LivesInFront {K : Type 0} (ample : Bool) (told : ToldBySink K) (universes : ℕ) (form : Form)
+pub record LivesInFront {K : Type 0} (ample : AmpleMemory) (told : ToldBySink K) (universes : ℕ) (form : Form)
     (bytes : List ℕ) (held held' : Known) (outlets outlets' : List (Option K)) : Type 0 where
   pub reading : Reading
   pub read : reads form bytes ≡ Ok reading
@@ -142,18 +159,18 @@ pub record LivesInFront {K : Type 0} (ample : Bool) (told : ToldBySink K) (unive
 
 -- The show was read, the script lines that were taken whole were answered, and the outlets got what was published of the commands that
 -- these lines came to.
-pub record LivesTaken {K : Type 0} (ample : Bool) (told : ToldBySink K) (universes : ℕ) (form : Form)
+pub record LivesTaken {K : Type 0} (ample : AmpleMemory) (told : ToldBySink K) (universes : ℕ) (form : Form)
     (bytes : List ℕ) (left held held' : Known) (outlets outlets' : List (Option K)) : Type 0 where
   pub reading : Reading
   pub read : reads form bytes ≡ Ok reading
   pub failures : List (Option ℕ)
   pub cut : CutOff 0 bytes left
   pub short : cut.lines < lines_read (lines_of bytes) + lines_wanted (script_of bytes)
-  pub allows : LiveAllows ample reading.show (script_of bytes) failures
+  pub allows : LiveAllows ample.edits reading.show (script_of bytes) failures
       (live_after reading.show (script_of bytes) failures (cut.lines - lines_read (lines_of bytes))).state.accepted
   pub text : Appends held held'
       (live_after reading.show (script_of bytes) failures (cut.lines - lines_read (lines_of bytes))).text
-  pub served : AreServed told reading.show universes outlets outlets'
+  pub served : AreServed ample.versions told reading.show universes outlets outlets'
       (live_after reading.show (script_of bytes) failures (cut.lines - lines_read (lines_of bytes))).state.accepted
 
 -- no reply to a script was written, and no outlet
@@ -171,10 +188,10 @@ NoneOfCut bytes left held held' outlets outlets' = (outlets' ≡ outlets) × Not
 -- How the live run of a form over this many universes ended: with Ok as above; with ShowRefused as another job, and nothing in any outlet.
 -- Else it ended as another job with the status, and the outlets got nothing, or what was published of the commands that the lines which
 -- were answered came to.
-abbrev pub HasLived : {K : Type 0} → (ample : Bool) → Status → ToldBySink K → ℕ → Form → List ℕ
+abbrev pub HasLived : {K : Type 0} → (ample : AmpleMemory) → Status → ToldBySink K → ℕ → Form → List ℕ
     → (left held held' : Known) → (outlets outlets' : List (Option K)) → Type 0
 HasLived ample status.Ok told universes form bytes left held held' outlets outlets' =
-    PlaysWhole ample told universes form bytes held held' outlets outlets'
+    PlaysWhole ample.edits told universes form bytes held held' outlets outlets'
 HasLived ample status.ShowRefused told universes form bytes left held held' outlets outlets' =
     HasEnded status.ShowRefused (Script (Live universes) form) bytes left held held' × (outlets' ≡ outlets)
 HasLived ample status.ReadFault told universes form bytes left held held' outlets outlets' =
@@ -285,13 +302,13 @@ TellsRun (Err fault) results unsent s = s ≡ status_for {A = Tally} (Err fault)
 
 -- A script was answered to its end, and the outlets got what was published of the commands that it came to; and so much is told of the
 -- outlets' faults and of how many commands were never published.
-pub record PlaysToEnd {K : Type 0} (ample : Bool) (Told : List (Option SinkFault) → ℕ → Type 0) (outlet_told : ToldBySink K)
+pub record PlaysToEnd {K : Type 0} (ample : AmpleMemory) (Told : List (Option SinkFault) → ℕ → Type 0) (outlet_told : ToldBySink K)
     (show : Show) (universes : ℕ) (script : List (List ℕ)) (held held' : Known) (outlets outlets' : List (Option K))
     : Type 0 where
   pub failures : List (Option ℕ)
-  pub allows : LiveAllows ample show script failures (live_session show script failures).state.accepted
+  pub allows : LiveAllows ample.edits show script failures (live_session show script failures).state.accepted
   pub text : Appends held held' (live_session show script failures).text
-  pub served : AreServed outlet_told show universes outlets outlets' (live_session show script failures).state.accepted
+  pub served : AreServed ample.versions outlet_told show universes outlets outlets' (live_session show script failures).state.accepted
   pub told : Told served.got.results (length served.held_back)
 
 -- no read failed, the output had no fault, and all that was written on it is handed on
@@ -314,7 +331,7 @@ DecidesInOrder status.Memory reads reads' told output output' outlets outlets' T
 DecidesInOrder other reads reads' told output output' outlets outlets' ToEnd = Unit {0}
 
 -- The same of an input: its show was read, and the script behind it was played to its end, within the limit of the input.
-pub record LivesToEnd {K : Type 0} (ample : Bool) (Told : List (Option SinkFault) → ℕ → Type 0) (told : ToldBySink K)
+pub record LivesToEnd {K : Type 0} (ample : AmpleMemory) (Told : List (Option SinkFault) → ℕ → Type 0) (told : ToldBySink K)
     (universes : ℕ) (form : Form) (bytes : List ℕ) (held held' : Known) (outlets outlets' : List (Option K))
     : Type 0 where
   pub reading : Reading

@@ -6,8 +6,7 @@ ghost use Rattle.lx_lex.specs.Unread.{CanAdvance, SameSource, bytes_taken, sourc
 ghost use Rattle.lx_spec.specs.declared.Job.TheVariants.{Script};
 ghost use Rattle.lx_spec.specs.declared.ScriptKind.TheVariants.{Live};
 ghost use Rattle.lx_workers.specs.Places.{IsFull};
-ghost use Rattle.lx_session.specs.Spared.{ByMemory, HasStood};
-ghost use Rattle.lx_desk.specs.Live.{HasLived, HasPlayedLive, KeepsOutlets, HasLiveCause, WantsLive};
+ghost use Rattle.lx_desk.specs.Live.{any_memory, ByLiveMemory, HasLived, HasPlayedLive, KeepsOutlets, HasLiveCause, WantsLive};
 ghost use Rattle.lx_desk.specs.Live.{ArePlayed, OutletsFinish, TellsOutlets, TellsRun, DecidesInOrder, LivesToEnd, PlaysToEnd};
 ghost use Rattle.lx_desk.specs.Finished.{Finishes};
 ghost use Rattle.lx_spec.specs.Text.{lines_of};
@@ -61,14 +60,14 @@ pub fn run_live<
     ensures outlets { KeepsOutlets K.Sink (Some (Script (Live universes) form)) result input.old input.new output.old
         output.new outlets.old outlets.new }
     ensures ended { IfSome (S.left input.old)
-        (λ bytes. HasLived false result K.Sink universes form bytes (S.left input.new) (O.holds output.old)
+        (λ bytes. HasLived any_memory result K.Sink universes form bytes (S.left input.new) (O.holds output.old)
         (O.holds output.new) outlets.old outlets.new) }
     ensures cause { HasLiveCause K.Sink result (S.faults input.old) (S.faults input.new) (O.faults output.old) (O.faults output.new)
         outlets.old outlets.new }
     ensures order { IfSome (S.left input.old)
         (λ bytes. DecidesInOrder result (S.faults input.old) (S.faults input.new) O.Sink output.old output.new outlets.old
         outlets.new
-        (λ Told. LivesToEnd false Told K.Sink universes form bytes (O.holds output.old) (O.holds output.new)
+        (λ Told. LivesToEnd any_memory Told K.Sink universes form bytes (O.holds output.old) (O.holds output.new)
         outlets.old outlets.new)) }
     ensures finished { Finishes (S.faults input.old) (S.faults input.new) O.Sink output.old output.new result }
 {
@@ -88,8 +87,9 @@ pub fn run_live<
 /// Reads a show and plays the script that follows it as `run_live` does, with the memory of these heaps: the first's for the show and
 /// its edits, and the writer's for what is published.
 ///
-/// Where the heap refused nothing no edit was refused for want of memory, as long as fewer than 2^62 commands were accepted. Memory is
-/// told only where the heap refused some, or the writer's did, or where the output or an outlet itself is out of memory.
+/// Where the heap refused nothing no edit was refused for want of memory, as long as fewer than 2^62 commands were accepted. Where the
+/// writer's refused nothing, all accepted commands were published, also where the run ended by a fault. Memory is told only where the heap
+/// refused some, or the writer's did, or where the output or an outlet itself is out of memory.
 pub fn run_live_in<
     R: Threads + Wait + Sync,
     H: Heap + Send,
@@ -114,24 +114,16 @@ pub fn run_live_in<
     requires full { IsFull outlets.old }
     ensures outlets { KeepsOutlets K.Sink (Some (Script (Live universes) form)) result input.old input.new output.old
         output.new outlets.old outlets.new }
-    ensures ended { IfSome (S.left input.old)
-        (λ bytes. HasLived false result K.Sink universes form bytes (S.left input.new) (O.holds output.old)
-        (O.holds output.new) outlets.old outlets.new) }
-    ensures spared { HasStood (H.refusals heap.old) (H.refusals heap.new) → IfSome (S.left input.old)
-        (λ bytes. HasLived true result K.Sink universes form bytes (S.left input.new) (O.holds output.old)
-        (O.holds output.new) outlets.old outlets.new) }
+    ensures ended { ByLiveMemory (H.refusals heap.old) (H.refusals heap.new) writers.old writers.new (λ ample. IfSome (S.left input.old)
+        (λ bytes. HasLived ample result K.Sink universes form bytes (S.left input.new) (O.holds output.old)
+        (O.holds output.new) outlets.old outlets.new)) }
     ensures cause { HasLiveCause K.Sink result (S.faults input.old) (S.faults input.new) (O.faults output.old) (O.faults output.new)
         outlets.old outlets.new }
-    ensures order { IfSome (S.left input.old)
+    ensures order { ByLiveMemory (H.refusals heap.old) (H.refusals heap.new) writers.old writers.new (λ ample. IfSome (S.left input.old)
         (λ bytes. DecidesInOrder result (S.faults input.old) (S.faults input.new) O.Sink output.old output.new outlets.old
         outlets.new
-        (λ Told. LivesToEnd false Told K.Sink universes form bytes (O.holds output.old) (O.holds output.new)
-        outlets.old outlets.new)) }
-    ensures spared_order { HasStood (H.refusals heap.old) (H.refusals heap.new) → IfSome (S.left input.old)
-        (λ bytes. DecidesInOrder result (S.faults input.old) (S.faults input.new) O.Sink output.old output.new outlets.old
-        outlets.new
-        (λ Told. LivesToEnd true Told K.Sink universes form bytes (O.holds output.old) (O.holds output.new)
-        outlets.old outlets.new)) }
+        (λ Told. LivesToEnd ample Told K.Sink universes form bytes (O.holds output.old) (O.holds output.new)
+        outlets.old outlets.new))) }
     ensures finished { Finishes (S.faults input.old) (S.faults input.new) O.Sink output.old output.new result }
     ensures wanted { WantsLive O.Sink K.Sink (H.refusals heap.old) (H.refusals heap.new) writers.old writers.new output.old output.new
         outlets.old outlets.new result }
@@ -187,13 +179,13 @@ fn play_live<
     ensures outlets { (outlets.new ≡ outlets.old) ⊎ ArePlayed K.Sink universes outlets.old outlets.new }
     ensures live { result ≢ Status.Live }
     ensures finish { OutletsFinish K.Sink universes outlets.old outlets.new result }
-    ensures ended { ByMemory (H.refusals heap.old) (H.refusals heap.new) (λ ample. IfSome (unread S.Source lines.old)
+    ensures ended { ByLiveMemory (H.refusals heap.old) (H.refusals heap.new) writers.old writers.new (λ ample. IfSome (unread S.Source lines.old)
         (λ bytes. HasPlayedLive ample result K.Sink show universes (bytes_taken lines.old) bytes
         (source_left S.Source lines.new) (O.holds output.old) (O.holds output.new) outlets.old outlets.new)) }
     ensures later { source_faults S.Source lines.old ≤ source_faults S.Source lines.new }
     ensures cause { HasLiveCause K.Sink result (source_faults S.Source lines.old) (source_faults S.Source lines.new)
         (O.faults output.old) (O.faults output.new) outlets.old outlets.new }
-    ensures order { ByMemory (H.refusals heap.old) (H.refusals heap.new) (λ ample. IfSome (unread S.Source lines.old)
+    ensures order { ByLiveMemory (H.refusals heap.old) (H.refusals heap.new) writers.old writers.new (λ ample. IfSome (unread S.Source lines.old)
         (λ bytes. DecidesInOrder result (source_faults S.Source lines.old) (source_faults S.Source lines.new) O.Sink output.old
         output.new outlets.old outlets.new
         (λ Told. PlaysToEnd ample Told K.Sink show universes (lines_of bytes) (O.holds output.old)

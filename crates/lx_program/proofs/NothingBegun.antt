@@ -6,11 +6,11 @@ use Rattle.lx_base.specs.Places.{EachAt}
 use Rattle.lx_desk.specs.declared.desk.Status.{Status}
 use Rattle.lx_program.specs.NamedJob.{NamesNoCrew, NamesNoRun}
 use Rattle.lx_desk.specs.declared.desk.Status.TheVariants as status
-use Rattle.lx_desk.specs.Live.{HasLived, KeepsOutlets}
+use Rattle.lx_desk.specs.Live.{AmpleMemory, HasLived, KeepsOutlets}
 use Rattle.lx_desk.specs.Crew.{HasCrewEnded, KeepsOperators}
 use Rattle.lx_io.specs.Told.{ToldBySink, ToldBySource}
 
-pub none_lived : {K : Type 0} (ample : Bool) (told : ToldBySink K) (universes : ℕ) (form : Form)
+pub none_lived : {K : Type 0} (ample : AmpleMemory) (told : ToldBySink K) (universes : ℕ) (form : Form)
     (bytes : List ℕ) (left held : Option (List ℕ)) (outlets : List (Option K))
     → HasLived ample status.Memory told universes form bytes left held held outlets outlets
 none_lived ample told universes form bytes left held outlets =

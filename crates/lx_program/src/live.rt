@@ -3,10 +3,9 @@
 ghost use Rattle.std.specs.Prelude.{◌≡◌, ◌≤◌, true, false, length, map, string_bytes};
 ghost use Rattle.lx_base.specs.declared.TheConstants.{UNIVERSES};
 ghost use Rattle.lx_spec.specs.Job.{job_of};
-ghost use Rattle.lx_session.specs.Spared.{HasStood};
 ghost use Rattle.lx_workers.specs.Places.{IsFull};
 ghost use Rattle.lx_desk.specs.Finished.{Finishes};
-ghost use Rattle.lx_desk.specs.Live.{DecidesInOrder, HasLiveCause, HasLived, KeepsOutlets, LivesToEnd};
+ghost use Rattle.lx_desk.specs.Live.{any_memory, ByLiveMemory, DecidesInOrder, HasLiveCause, HasLived, KeepsOutlets, LivesToEnd};
 ghost use Rattle.lx_program.specs.NamedJob.{OfRun};
 ghost use Rattle.lx_program.specs.Wants.{ReadsWordsOnce, WantsRunOrWords};
 
@@ -55,7 +54,7 @@ pub fn desk_live<
     // After a fault each outlet has what was published of the commands of the lines that were answered. By it and by `order`
     // Memory refuses only edits, as said above.
     ensures ended { OfRun (job_of (map string_bytes words.now)) (S.left input.old)
-        (λ universes form bytes. HasLived false result K.Sink universes form bytes (S.left input.new) (O.holds output.old)
+        (λ universes form bytes. HasLived any_memory result K.Sink universes form bytes (S.left input.new) (O.holds output.old)
         (O.holds output.new) outlets.old outlets.new) }
 
     // ReadFault and WriteFault have their causes, and faults are told in their order. With Ok and ShowRefused no fault was passed over,
@@ -65,7 +64,7 @@ pub fn desk_live<
     ensures order { OfRun (job_of (map string_bytes words.now)) (S.left input.old)
         (λ universes form bytes. DecidesInOrder result (S.faults input.old) (S.faults input.new) O.Sink output.old output.new
         outlets.old outlets.new
-        (λ Told. LivesToEnd false Told K.Sink universes form bytes (O.holds output.old) (O.holds output.new)
+        (λ Told. LivesToEnd any_memory Told K.Sink universes form bytes (O.holds output.old) (O.holds output.new)
         outlets.old outlets.new)) }
     ensures finished { Finishes (S.faults input.old) (S.faults input.new) O.Sink output.old output.new result }
 {
@@ -106,27 +105,21 @@ pub fn desk_live_in<
     requires full { IsFull outlets.old }
     ensures outlets { KeepsOutlets K.Sink (job_of (map string_bytes words.now)) result input.old input.new output.old
         output.new outlets.old outlets.new }
-    ensures ended { OfRun (job_of (map string_bytes words.now)) (S.left input.old)
-        (λ universes form bytes. HasLived false result K.Sink universes form bytes (S.left input.new) (O.holds output.old)
-        (O.holds output.new) outlets.old outlets.new) }
 
-    // Where the heap refused nothing no edit was refused for want of memory, as long as fewer than 2^62 commands were accepted.
-    ensures spared { HasStood (H.refusals heap.old) (H.refusals heap.new) → OfRun (job_of (map string_bytes words.now)) (S.left input.old)
-        (λ universes form bytes. HasLived true result K.Sink universes form bytes (S.left input.new) (O.holds output.old)
-        (O.holds output.new) outlets.old outlets.new) }
+    // Where the heap refused nothing no edit was refused for want of memory, as long as fewer than 2^62 commands were accepted. Where the
+    // writer's refused nothing all accepted commands were published, however the run ended.
+    ensures ended { ByLiveMemory (H.refusals heap.old) (H.refusals heap.new) writers.old writers.new
+        (λ ample. OfRun (job_of (map string_bytes words.now)) (S.left input.old)
+        (λ universes form bytes. HasLived ample result K.Sink universes form bytes (S.left input.new) (O.holds output.old)
+        (O.holds output.new) outlets.old outlets.new)) }
     ensures cause { HasLiveCause K.Sink result (S.faults input.old) (S.faults input.new) (O.faults output.old) (O.faults output.new)
         outlets.old outlets.new }
-    ensures order { OfRun (job_of (map string_bytes words.now)) (S.left input.old)
+    ensures order { ByLiveMemory (H.refusals heap.old) (H.refusals heap.new) writers.old writers.new
+        (λ ample. OfRun (job_of (map string_bytes words.now)) (S.left input.old)
         (λ universes form bytes. DecidesInOrder result (S.faults input.old) (S.faults input.new) O.Sink output.old output.new
         outlets.old outlets.new
-        (λ Told. LivesToEnd false Told K.Sink universes form bytes (O.holds output.old) (O.holds output.new)
-        outlets.old outlets.new)) }
-    ensures spared_order { HasStood (H.refusals heap.old) (H.refusals heap.new)
-        → OfRun (job_of (map string_bytes words.now)) (S.left input.old)
-        (λ universes form bytes. DecidesInOrder result (S.faults input.old) (S.faults input.new) O.Sink output.old output.new
-        outlets.old outlets.new
-        (λ Told. LivesToEnd true Told K.Sink universes form bytes (O.holds output.old) (O.holds output.new)
-        outlets.old outlets.new)) }
+        (λ Told. LivesToEnd ample Told K.Sink universes form bytes (O.holds output.old) (O.holds output.new)
+        outlets.old outlets.new))) }
     ensures finished { Finishes (S.faults input.old) (S.faults input.new) O.Sink output.old output.new result }
 
     // Memory is told only where the heap refused some, or the writer's did, or the output or an outlet itself is out of memory; or where

@@ -17,15 +17,16 @@ returns-in-Ok-play_in-clause-outlets g c =
     inr (are_played _ _ _ _ _ _ _ _ _ s.front s.front_len s.back (c.in-Ok-play_in.ensures.played false (λ no. absurd cc)).outlets_are)
 
 pub returns-in-Ok-play_in-clause-ended : goal.returns-in-Ok-play_in-clause-ended
-returns-in-Ok-play_in-clause-ended g c = λ ample stood.
+returns-in-Ok-play_in-clause-ended g c = λ ample stood sent.
     let s = c.split_at_mut-used.ensures in
-    let p = c.in-Ok-play_in.ensures.played ample (λ is. stood_since _ _ _ c.in-Ok.ensures.cause.later (stood is)) in
+    let p = c.in-Ok-play_in.ensures.played ample.edits (λ is. stood_since _ _ _ c.in-Ok.ensures.cause.later (stood is)) in
     let same : c.in-Ok.console.show ≡ c.args.show = ap (λ (k : Kept). k.show) c.in-Ok.ensures.stands.same in
     subst (λ (w : Show). IfSome (unread g.S.Source c.args.lines.now) (λ bytes. HasPlayedLive ample c.status_of_run.result g.K.Sink w c.args.universes
     c.args.lines.now.taken bytes
     (g.S.Source.left c.play_in.new.lines.source.now) (g.O.Sink.holds c.args.output.now) (g.O.Sink.holds c.play_in.new.output) c.args.outlets.now
     (c.play_in.new.outlets ++ c.split_at_mut-used.result.1.now))) same
-    (has_played_live ample _ _ _ _ _ _ _ _ _ _ _ _ s.front s.front_len s.back p.unsent_is p.outlets_are _ _ _ _ _ _ _ _
+    (has_played_live ample _ _ _ _ _ _ _ _ _ _ _ _ s.front s.front_len s.back p.unsent_is p.outlets_are
+    (λ is. c.in-Ok-play_in.ensures.sent (sent is)) _ _ _ _ _ _ _ _
     c.status_of_run.ensures p.session_is c.in-Ok-play_in.ensures.limit)
 
 pub returns-in-Ok-play_in-clause-cause : goal.returns-in-Ok-play_in-clause-cause
@@ -37,15 +38,15 @@ returns-in-Ok-play_in-clause-cause g c =
     s.front s.front_len most c.requires.full p.outlets_are c.status_of_run.ensures c.in-Ok-play_in.ensures.cause
 
 pub returns-clause-ended : goal.returns-clause-ended
-returns-clause-ended g c = λ ample stood.
+returns-clause-ended g c = λ ample stood sent.
     let s = c.split_at_mut-used.ensures in
     none_played ample g.K.Sink c.args.show c.args.universes c.args.lines.now.taken _ (g.S.Source.left c.play_in.new.lines.source.now) _ _ c.args.outlets.now _
     (ap g.O.Sink.holds c.in-Err.ensures.err.1.1.0) (search rules)
 
 pub returns-in-Ok-play_in-clause-order : goal.returns-in-Ok-play_in-clause-order
-returns-in-Ok-play_in-clause-order g c = λ ample stood.
+returns-in-Ok-play_in-clause-order g c = λ ample stood sent.
     let s = c.split_at_mut-used.ensures in
-    let p = c.in-Ok-play_in.ensures.played ample (λ is. stood_since _ _ _ c.in-Ok.ensures.cause.later (stood is)) in
+    let p = c.in-Ok-play_in.ensures.played ample.edits (λ is. stood_since _ _ _ c.in-Ok.ensures.cause.later (stood is)) in
     let same : c.in-Ok.console.show ≡ c.args.show = ap (λ (k : Kept). k.show) c.in-Ok.ensures.stands.same in
     subst (λ (w : Show). IfSome (unread g.S.Source c.args.lines.now)
     (λ bytes. DecidesInOrder c.status_of_run.result (g.S.Source.faults c.args.lines.now.source.now)
@@ -54,7 +55,8 @@ returns-in-Ok-play_in-clause-order g c = λ ample stood.
     (g.O.Sink.holds c.args.output.now) (g.O.Sink.holds c.play_in.new.output) c.args.outlets.now
     (c.play_in.new.outlets ++ c.split_at_mut-used.result.1.now)
     × (c.args.lines.now.taken + length (bytes_wanted bytes) ≤ INPUT_BYTES)))) same
-    (in_order ample _ _ _ _ _ _ _ _ _ _ _ _ s.front s.front_len s.back p.unsent_is p.outlets_are g.S.Source g.O.Sink
+    (in_order ample _ _ _ _ _ _ _ _ _ _ _ _ s.front s.front_len s.back p.unsent_is p.outlets_are
+    (λ is. c.in-Ok-play_in.ensures.sent (sent is)) g.S.Source g.O.Sink
     c.args.lines.now c.play_in.new.lines c.args.output.now c.play_in.new.output _ _ _ _ _ _ _ _
     c.status_of_run.ensures p.session_is c.in-Ok-play_in.ensures.limit c.in-Ok-play_in.ensures.cause c.in-Ok-play_in.ensures.handed_on)
 
@@ -80,7 +82,7 @@ returns-clause-wanted g c = λ is. elim c.in-Err.ensures.memory [
 ]
 
 pub returns-clause-order : goal.returns-clause-order
-returns-clause-order g c = λ ample stood.
+returns-clause-order g c = λ ample stood sent.
     let s = c.split_at_mut-used.ensures in
     none_ordered _ _ _ g.O.Sink c.args.output.now c.play_in.new.output c.args.outlets.now _
     (λ bytes Told. PlaysToEnd ample Told g.K.Sink c.args.show c.args.universes (lines_of bytes) (g.O.Sink.holds c.args.output.now)

@@ -10,14 +10,14 @@ returns-in-Ok-clause-outlets g c =
     (c.play_live.ensures.usage, c.play_live.ensures.outlets, c.play_live.ensures.live, c.play_live.ensures.finish)
 
 pub returns-in-Ok-clause-ended : goal.returns-in-Ok-clause-ended
-returns-in-Ok-clause-ended g c =
+returns-in-Ok-clause-ended g c = λ ample stood sent.
     let same = c.input-1.given.1 (sym (c.play_live.ensures.same_source ∙ c.in-Ok.ensures.same_reference
     ∙ c.new-lines.ensures.same_reference)) in
-    subst (λ v. IfSome (g.S.Source.left c.args.input.now) (λ bytes. HasLived false c.play_live.result g.K.Sink c.args.universes c.args.form bytes
+    subst (λ v. IfSome (g.S.Source.left c.args.input.now) (λ bytes. HasLived ample c.play_live.result g.K.Sink c.args.universes c.args.form bytes
     (g.S.Source.left v)
     (g.O.Sink.holds c.args.output.now) (g.O.Sink.holds c.play_live.new.output) c.args.outlets.now c.play_live.new.outlets)) (sym same)
-    (live_ended false c.args.form c.args.universes _ _ _ _ c.in-Ok.loaded _ _ _ _ _ _ c.play_live.result c.new-lines.ensures.unread
-    c.new-lines.ensures.taken c.in-Ok.ensures.answer (c.play_live.ensures.ended false (λ no. absurd cc)))
+    (live_ended ample c.args.form c.args.universes _ _ _ _ c.in-Ok.loaded _ _ _ _ _ _ c.play_live.result c.new-lines.ensures.unread
+    c.new-lines.ensures.taken c.in-Ok.ensures.answer (c.play_live.ensures.ended ample (λ is. stood_since _ _ _ c.in-Ok.ensures.cause.later (stood is)) sent))
 
 pub returns-in-Err-clause-outlets : goal.returns-in-Err-clause-outlets
 returns-in-Err-clause-outlets g c = (
@@ -28,27 +28,27 @@ returns-in-Err-clause-outlets g c = (
 )
 
 pub returns-in-Err-clause-ended : goal.returns-in-Err-clause-ended
-returns-in-Err-clause-ended g c =
+returns-in-Err-clause-ended g c = λ ample stood sent.
     let same = c.in-Err.input-in-Err-1-own.given.1 (sym (c.in-Err.ensures.same_reference ∙ c.new-lines.ensures.same_reference)) in
-    subst (λ v. IfSome (g.S.Source.left c.args.input.now) (λ bytes. HasLived false c.refuse.result g.K.Sink c.args.universes c.args.form bytes
+    subst (λ v. IfSome (g.S.Source.left c.args.input.now) (λ bytes. HasLived ample c.refuse.result g.K.Sink c.args.universes c.args.form bytes
     (g.S.Source.left v)
     (g.O.Sink.holds c.args.output.now) (g.O.Sink.holds c.refuse.new.output) c.args.outlets.now c.args.outlets.now)) (sym same)
-    (refused_lived false c.args.form c.args.universes _ _ c.new-lines.result c.read_show_in.new.lines _ _ _ _ c.in-Err.fault c.refuse.result
+    (refused_lived ample c.args.form c.args.universes _ _ c.new-lines.result c.read_show_in.new.lines _ _ _ _ c.in-Err.fault c.refuse.result
     c.new-lines.ensures.unread c.new-lines.ensures.taken c.in-Err.ensures.answer c.refuse.ensures.refused)
 
 pub returns-in-Ok-clause-order : goal.returns-in-Ok-clause-order
-returns-in-Ok-clause-order g c =
+returns-in-Ok-clause-order g c = λ ample stood sent.
     let same = c.input-1.given.1 (sym (c.play_live.ensures.same_source ∙ c.in-Ok.ensures.same_reference
     ∙ c.new-lines.ensures.same_reference)) in
     let kept = c.in-Ok.ensures.kept (λ odd. cc) ∙ ap g.S.Source.faults c.new-lines.ensures.source in
     subst (λ v. IfSome (g.S.Source.left c.args.input.now)
     (λ bytes. DecidesInOrder c.play_live.result (g.S.Source.faults c.args.input.now) (g.S.Source.faults v) g.O.Sink
     c.args.output.now c.play_live.new.output c.args.outlets.now c.play_live.new.outlets
-    (λ Told. LivesToEnd false Told g.K.Sink c.args.universes c.args.form bytes
+    (λ Told. LivesToEnd ample Told g.K.Sink c.args.universes c.args.form bytes
     (g.O.Sink.holds c.args.output.now) (g.O.Sink.holds c.play_live.new.output) c.args.outlets.now c.play_live.new.outlets))) (sym same)
-    (live_order false c.args.form c.args.universes g.K.Sink g.O.Sink _ _
+    (live_order ample c.args.form c.args.universes g.K.Sink g.O.Sink _ _
     _ _ _ _ _ _ _ c.in-Ok.loaded _ c.play_live.result _ _ _ c.new-lines.ensures.unread c.new-lines.ensures.taken
-    c.in-Ok.ensures.answer kept (c.play_live.ensures.order false (λ no. absurd cc)))
+    c.in-Ok.ensures.answer kept (c.play_live.ensures.order ample (λ is. stood_since _ _ _ c.in-Ok.ensures.cause.later (stood is)) sent))
 
 pub returns-in-Ok-clause-finished : goal.returns-in-Ok-clause-finished
 returns-in-Ok-clause-finished g c =
@@ -60,8 +60,8 @@ returns-in-Ok-clause-finished g c =
     (after_reads _ _ _ _ _ _ c.play_live.result (λ done. kept) c.play_live.ensures.finished)
 
 pub returns-in-Err-clause-order : goal.returns-in-Err-clause-order
-returns-in-Err-clause-order g c =
-    all_refused _ c.refuse.result _ _ g.O.Sink _ _ c.args.outlets.now (λ bytes Told. LivesToEnd false Told g.K.Sink c.args.universes c.args.form bytes
+returns-in-Err-clause-order g c = λ ample stood sent.
+    all_refused _ c.refuse.result _ _ g.O.Sink _ _ c.args.outlets.now (λ bytes Told. LivesToEnd ample Told g.K.Sink c.args.universes c.args.form bytes
     (g.O.Sink.holds c.args.output.now) (g.O.Sink.holds c.refuse.new.output) c.args.outlets.now c.args.outlets.now)
     c.refuse.ensures.write c.refuse.ensures.memory
 
@@ -73,45 +73,6 @@ returns-in-Err-clause-finished g c =
     subst (λ v. Finishes (g.S.Source.faults c.args.input.now) (g.S.Source.faults v) g.O.Sink
     c.args.output.now c.refuse.new.output c.refuse.result) (sym same)
     (after_reads _ _ _ _ _ _ c.refuse.result kept (c.refuse.ensures.finished (g.S.Source.faults c.read_show_in.new.lines.source.now)))
-
-pub returns-in-Ok-clause-spared : goal.returns-in-Ok-clause-spared
-returns-in-Ok-clause-spared g c = λ stood.
-    let same = c.input-1.given.1 (sym (c.play_live.ensures.same_source ∙ c.in-Ok.ensures.same_reference
-    ∙ c.new-lines.ensures.same_reference)) in
-    subst (λ v. IfSome (g.S.Source.left c.args.input.now) (λ bytes. HasLived true c.play_live.result g.K.Sink c.args.universes c.args.form bytes
-    (g.S.Source.left v)
-    (g.O.Sink.holds c.args.output.now) (g.O.Sink.holds c.play_live.new.output) c.args.outlets.now c.play_live.new.outlets)) (sym same)
-    (live_ended true c.args.form c.args.universes _ _ _ _ c.in-Ok.loaded _ _ _ _ _ _ c.play_live.result c.new-lines.ensures.unread
-    c.new-lines.ensures.taken c.in-Ok.ensures.answer (c.play_live.ensures.ended true (λ is. stood_since _ _ _ c.in-Ok.ensures.cause.later stood)))
-
-pub returns-in-Err-clause-spared : goal.returns-in-Err-clause-spared
-returns-in-Err-clause-spared g c = λ stood.
-    let same = c.in-Err.input-in-Err-1-own.given.1 (sym (c.in-Err.ensures.same_reference ∙ c.new-lines.ensures.same_reference)) in
-    subst (λ v. IfSome (g.S.Source.left c.args.input.now) (λ bytes. HasLived true c.refuse.result g.K.Sink c.args.universes c.args.form bytes
-    (g.S.Source.left v)
-    (g.O.Sink.holds c.args.output.now) (g.O.Sink.holds c.refuse.new.output) c.args.outlets.now c.args.outlets.now)) (sym same)
-    (refused_lived true c.args.form c.args.universes _ _ c.new-lines.result c.read_show_in.new.lines _ _ _ _ c.in-Err.fault c.refuse.result
-    c.new-lines.ensures.unread c.new-lines.ensures.taken c.in-Err.ensures.answer c.refuse.ensures.refused)
-
-pub returns-in-Ok-clause-spared_order : goal.returns-in-Ok-clause-spared_order
-returns-in-Ok-clause-spared_order g c = λ stood.
-    let same = c.input-1.given.1 (sym (c.play_live.ensures.same_source ∙ c.in-Ok.ensures.same_reference
-    ∙ c.new-lines.ensures.same_reference)) in
-    let kept = c.in-Ok.ensures.kept (λ odd. cc) ∙ ap g.S.Source.faults c.new-lines.ensures.source in
-    subst (λ v. IfSome (g.S.Source.left c.args.input.now)
-    (λ bytes. DecidesInOrder c.play_live.result (g.S.Source.faults c.args.input.now) (g.S.Source.faults v) g.O.Sink
-    c.args.output.now c.play_live.new.output c.args.outlets.now c.play_live.new.outlets
-    (λ Told. LivesToEnd true Told g.K.Sink c.args.universes c.args.form bytes
-    (g.O.Sink.holds c.args.output.now) (g.O.Sink.holds c.play_live.new.output) c.args.outlets.now c.play_live.new.outlets))) (sym same)
-    (live_order true c.args.form c.args.universes g.K.Sink g.O.Sink _ _
-    _ _ _ _ _ _ _ c.in-Ok.loaded _ c.play_live.result _ _ _ c.new-lines.ensures.unread c.new-lines.ensures.taken
-    c.in-Ok.ensures.answer kept (c.play_live.ensures.order true (λ is. stood_since _ _ _ c.in-Ok.ensures.cause.later stood)))
-
-pub returns-in-Err-clause-spared_order : goal.returns-in-Err-clause-spared_order
-returns-in-Err-clause-spared_order g c = λ stood.
-    all_refused _ c.refuse.result _ _ g.O.Sink _ _ c.args.outlets.now (λ bytes Told. LivesToEnd true Told g.K.Sink c.args.universes c.args.form bytes
-    (g.O.Sink.holds c.args.output.now) (g.O.Sink.holds c.refuse.new.output) c.args.outlets.now c.args.outlets.now)
-    c.refuse.ensures.write c.refuse.ensures.memory
 
 pub returns-in-Ok-clause-wanted : goal.returns-in-Ok-clause-wanted
 returns-in-Ok-clause-wanted g c =

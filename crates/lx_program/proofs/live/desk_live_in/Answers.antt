@@ -7,15 +7,9 @@ use Rattle.lx_desk.specs.declared.desk.Status.TheVariants as status
 use Rattle.lx_program.proofs.live.desk_live_in.Goals as goal
 
 pub returns-in-Err-Memory-clause-ended : goal.returns-in-Err-Memory-clause-ended
-returns-in-Err-Memory-clause-ended g c =
+returns-in-Err-Memory-clause-ended g c = λ ample stood sent.
     of_each_run (job_of (map string_bytes c.args.words.now)) (g.S.Source.left c.args.input.now) _
-    (λ universes form bytes. none_lived false g.K.Sink universes form bytes
-    (g.S.Source.left c.args.input.now) (g.O.Sink.holds c.args.output.now) c.args.outlets.now)
-
-pub returns-in-Err-Memory-clause-spared : goal.returns-in-Err-Memory-clause-spared
-returns-in-Err-Memory-clause-spared g c = λ stood.
-    of_each_run (job_of (map string_bytes c.args.words.now)) (g.S.Source.left c.args.input.now) _
-    (λ universes form bytes. none_lived true g.K.Sink universes form bytes
+    (λ universes form bytes. none_lived ample g.K.Sink universes form bytes
     (g.S.Source.left c.args.input.now) (g.O.Sink.holds c.args.output.now) c.args.outlets.now)
 
 pub returns-in-Err-Memory-clause-wanted : goal.returns-in-Err-Memory-clause-wanted
@@ -35,28 +29,15 @@ returns-in-Err-Memory-clause-outlets g c =
     (λ is. cc)
 
 pub returns-in-Err-Usage-clause-ended : goal.returns-in-Err-Usage-clause-ended
-returns-in-Err-Usage-clause-ended g c =
-    of_no_run (job_of (map string_bytes c.args.words.now)) (g.S.Source.left c.args.input.now) _ (c.in-Err-Usage.ensures.usage (ap Err c.in-Err-Usage.field-0-is))
-
-pub returns-in-Err-Usage-clause-spared : goal.returns-in-Err-Usage-clause-spared
-returns-in-Err-Usage-clause-spared g c = λ stood.
+returns-in-Err-Usage-clause-ended g c = λ ample stood sent.
     of_no_run (job_of (map string_bytes c.args.words.now)) (g.S.Source.left c.args.input.now) _ (c.in-Err-Usage.ensures.usage (ap Err c.in-Err-Usage.field-0-is))
 
 pub returns-in-Err-Usage-clause-order : goal.returns-in-Err-Usage-clause-order
-returns-in-Err-Usage-clause-order g c =
-    of_no_run (job_of (map string_bytes c.args.words.now)) (g.S.Source.left c.args.input.now) _ (c.in-Err-Usage.ensures.usage (ap Err c.in-Err-Usage.field-0-is))
-
-pub returns-in-Err-Usage-clause-spared_order : goal.returns-in-Err-Usage-clause-spared_order
-returns-in-Err-Usage-clause-spared_order g c = λ stood.
+returns-in-Err-Usage-clause-order g c = λ ample stood sent.
     of_no_run (job_of (map string_bytes c.args.words.now)) (g.S.Source.left c.args.input.now) _ (c.in-Err-Usage.ensures.usage (ap Err c.in-Err-Usage.field-0-is))
 
 pub returns-in-Err-Memory-clause-order : goal.returns-in-Err-Memory-clause-order
-returns-in-Err-Memory-clause-order g c =
-    of_each_run (job_of (map string_bytes c.args.words.now)) (g.S.Source.left c.args.input.now) _
-    (λ universes form bytes. inl (inl (refl, refl)))
-
-pub returns-in-Err-Memory-clause-spared_order : goal.returns-in-Err-Memory-clause-spared_order
-returns-in-Err-Memory-clause-spared_order g c = λ stood.
+returns-in-Err-Memory-clause-order g c = λ ample stood sent.
     of_each_run (job_of (map string_bytes c.args.words.now)) (g.S.Source.left c.args.input.now) _
     (λ universes form bytes. inl (inl (refl, refl)))
 
