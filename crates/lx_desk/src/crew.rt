@@ -15,12 +15,11 @@ use crate::desk::Status;
 use crate::refuse::refuse;
 use lx_console::Console;
 use lx_crew::{Crewed, OperatorFault, QueueHeap, crew_in};
-use lx_io::{Heap, Sink, SinkFault, Source, SystemHeap};
+use lx_io::{Heap, Sink, SinkFault, Source};
 use lx_lex::Lines;
 use lx_reader::read_show_in;
 use lx_show::Show;
 use lx_spec::Form;
-use std::alloc::Global;
 use std::sync::Wait;
 use std::thread::Threads;
 
@@ -34,47 +33,8 @@ use std::thread::Threads;
 /// lowest operator that had one; where that is told, all that was written is handed on. The answer is never Live. With Ok and ShowRefused
 /// no read of the input and no write failed, and all that was written is handed on. Memory is told only before anything is written and
 /// any operator's source read, or where the output itself is out of memory.
-pub fn run_crew<R: Threads + Wait + Sync, I: Source, S: Source + Send + Drop, K: Sink + Send>(
-    rt: &R,
-    alloc: Global,
-    count: u8,
-    form: Form,
-    input: &mut I,
-    output: &mut K,
-    operators: &mut [Option<S>],
-) -> Status
-    requires some { 1 ≤ count }
-    requires most { count ≤ OPERATORS }
-    requires all { length operators.old ≡ OPERATORS }
-    requires full { EachAt (λ place source. IsSome source) operators.old }
-    ensures words { KeepsOperators (Some (Crew count form)) result input.old input.new output.old output.new operators.old operators.new }
-    ensures ended { IfSome (I.left input.old)
-        (λ bytes. HasCrewEnded false S.Source count form bytes (I.left input.new) operators.old operators.new
-        (K.holds output.old) (K.holds output.new) result) }
-    ensures prefix { IfSome (I.left input.old)
-        (λ bytes. WritesCrewFront S.Source count operators.old (K.holds output.old) (K.holds output.new) (reads form bytes)) }
-    ensures cause { HasCrewCause S.Source result (I.faults input.old) (I.faults input.new) (K.faults output.old) (K.faults output.new)
-        count operators.old operators.new }
-    ensures finished { Finishes (I.faults input.old) (I.faults input.new) K.Sink output.old output.new result }
-    ensures memory { HasWanted K.Sink output.old output.new result }
-    ensures unread { TakesNoneOrWants K.Sink output.old output.new operators.old operators.new result }
-    ensures handed_on { HandsOn K.Sink output.old output.new result }
-{
-    run_crew_in(
-        rt,
-        &mut SystemHeap::new(alloc),
-        &mut QueueHeap::new(alloc),
-        count,
-        form,
-        input,
-        output,
-        operators,
-    )
-}
-
-/// Serves the operators 1 to `count` over a show as `run_crew` does, with the memory of these heaps: the first's for the show and its
-/// edits, and the queue's for what the lines go through.
 ///
+/// Its memory is that of two heaps: the first's for the show and its edits, and the queue's for what the lines go through.
 /// Where the heap refused nothing no edit was refused for want of memory. Memory is told only where the heap refused some, or the
 /// queue's did, or where the output itself is out of memory.
 pub fn run_crew_in<

@@ -12,9 +12,8 @@ use crate::check::check;
 use crate::make::make;
 use crate::script::script;
 use crate::sheet::sheet;
-use lx_io::{Heap, Sink, Source, SystemHeap};
+use lx_io::{Heap, Sink, Source};
 use lx_spec::Job;
-use std::alloc::Global;
 
 /// How a job ended.
 #[derive(Clone, Copy, Debug, PartialEq, Eq)]
@@ -48,24 +47,10 @@ pub enum Status {
 /// With Ok and ShowRefused no read and no write failed, and all that was written is handed on. Memory is told only before
 /// anything is written, or where the output itself is out of memory.
 ///
-/// `run` and `crew` run beside threads: the answer is Live, and nothing is read or written. `run_live` and `run_crew` do them.
-pub fn run_job<S: Source, K: Sink>(alloc: Global, job: Job, input: &mut S, output: &mut K) -> Status
-    ensures words { AnswersWords (Some job) result input.old input.new output.old output.new }
-    ensures ended { IfSome (given_to job (S.left input.old))
-        (λ bytes. HasEnded result job bytes (S.left input.new) (K.holds output.old) (K.holds output.new)) }
-    ensures prefix { IfSome (given_to job (S.left input.old)) (λ bytes. WritesPrefix job bytes (K.holds output.old) (K.holds output.new)) }
-    ensures cause { HasCauseOf result (S.faults input.old) (S.faults input.new) (K.faults output.old) (K.faults output.new) }
-    ensures finished { Finishes (S.faults input.old) (S.faults input.new) K.Sink output.old output.new result }
-    ensures unread { (cues : ℕ) → job ≡ Make cues → input.new ≡ input.old }
-    ensures memory { HasWanted K.Sink output.old output.new result }
-{
-    run_job_in(&mut SystemHeap::new(alloc), job, input, output)
-}
-
-/// Does the job, with all its memory from this heap.
+/// All its memory is that of the heap. Where the heap refused nothing, what is written is that of a script of which no edit and no record
+/// was refused for want of memory. Memory is told only where the heap refused some, or where the output itself is out of memory.
 ///
-/// Where the heap refused nothing, what is written is that of a script of which no edit and no record was refused for want of memory.
-/// Memory is told only where the heap refused some, or where the output itself is out of memory.
+/// `run` and `crew` run beside threads: the answer is Live, and nothing is read or written. `run_live_in` and `run_crew_in` do them.
 pub fn run_job_in<H: Heap, S: Source, K: Sink>(
     heap: &mut H,
     job: Job,

@@ -18,6 +18,6 @@ mod sheet;
 mod two;
 mod undo;
 
-pub use crew::{run_crew, run_crew_in};
-pub use desk::{Status, run_job, run_job_in};
-pub use live::{run_live, run_live_in};
+pub use crew::run_crew_in;
+pub use desk::{Status, run_job_in};
+pub use live::run_live_in;

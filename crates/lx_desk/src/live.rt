@@ -6,7 +6,7 @@ ghost use Rattle.lx_lex.specs.Unread.{CanAdvance, SameSource, bytes_taken, sourc
 ghost use Rattle.lx_spec.specs.declared.Job.TheVariants.{Script};
 ghost use Rattle.lx_spec.specs.declared.ScriptKind.TheVariants.{Live};
 ghost use Rattle.lx_workers.specs.Places.{IsFull};
-ghost use Rattle.lx_desk.specs.Live.{any_memory, ByLiveMemory, HasLived, HasPlayedLive, KeepsOutlets, HasLiveCause, WantsLive};
+ghost use Rattle.lx_desk.specs.Live.{ByLiveMemory, HasLived, HasPlayedLive, KeepsOutlets, HasLiveCause, WantsLive};
 ghost use Rattle.lx_desk.specs.Live.{ArePlayed, OutletsFinish, TellsOutlets, TellsRun, DecidesInOrder, LivesToEnd, PlaysToEnd};
 ghost use Rattle.lx_desk.specs.Finished.{Finishes};
 ghost use Rattle.lx_spec.specs.Text.{lines_of};
@@ -16,13 +16,12 @@ use crate::desk::Status;
 use crate::play::status_of;
 use crate::refuse::refuse;
 use lx_console::Console;
-use lx_io::{Heap, Pace, Sink, SinkFault, Source, SystemHeap};
+use lx_io::{Heap, Pace, Sink, SinkFault, Source};
 use lx_lex::Lines;
 use lx_reader::read_show_in;
 use lx_show::Show;
 use lx_spec::Form;
 use lx_workers::{LiveOutcome, OUTLETS, WriterHeap, play_in};
-use std::alloc::Global;
 use std::sync::Wait;
 use std::thread::Threads;
 
@@ -37,56 +36,8 @@ use std::thread::Threads;
 /// The fault of the session decides the status first, then a write that failed in an outlet, and then that memory was short. An outlet
 /// that fails is ended, and no other. The answer is never Live. With Ok no read and no write failed, in no outlet in use either, and all
 /// that was written is handed on.
-pub fn run_live<
-    R: Threads + Wait + Sync,
-    S: Source + Send,
-    O: Sink + Send,
-    K: Sink + Send + Drop,
-    C: Pace + Sync,
->(
-    rt: &R,
-    alloc: Global,
-    universes: u8,
-    form: Form,
-    input: &mut S,
-    output: &mut O,
-    outlets: &mut [Option<K>],
-    pace: &C,
-) -> Status
-    requires some { 1 ≤ universes }
-    requires most { universes ≤ UNIVERSES }
-    requires all { length outlets.old ≡ UNIVERSES }
-    requires full { IsFull outlets.old }
-    ensures outlets { KeepsOutlets K.Sink (Some (Script (Live universes) form)) result input.old input.new output.old
-        output.new outlets.old outlets.new }
-    ensures ended { IfSome (S.left input.old)
-        (λ bytes. HasLived any_memory result K.Sink universes form bytes (S.left input.new) (O.holds output.old)
-        (O.holds output.new) outlets.old outlets.new) }
-    ensures cause { HasLiveCause K.Sink result (S.faults input.old) (S.faults input.new) (O.faults output.old) (O.faults output.new)
-        outlets.old outlets.new }
-    ensures order { IfSome (S.left input.old)
-        (λ bytes. DecidesInOrder result (S.faults input.old) (S.faults input.new) O.Sink output.old output.new outlets.old
-        outlets.new
-        (λ Told. LivesToEnd any_memory Told K.Sink universes form bytes (O.holds output.old) (O.holds output.new)
-        outlets.old outlets.new)) }
-    ensures finished { Finishes (S.faults input.old) (S.faults input.new) O.Sink output.old output.new result }
-{
-    run_live_in(
-        rt,
-        &mut SystemHeap::new(alloc),
-        &mut WriterHeap::new(alloc),
-        universes,
-        form,
-        input,
-        output,
-        outlets,
-        pace,
-    )
-}
-
-/// Reads a show and plays the script that follows it as `run_live` does, with the memory of these heaps: the first's for the show and
-/// its edits, and the writer's for what is published.
 ///
+/// Its memory is that of two heaps: the first's for the show and its edits, and the writer's for what is published.
 /// Where the heap refused nothing no edit was refused for want of memory, as long as fewer than 2^62 commands were accepted. Where the
 /// writer's refused nothing, all accepted commands were published, also where the run ended by a fault. Memory is told only where the heap
 /// refused some, or the writer's did, or where the output or an outlet itself is out of memory.

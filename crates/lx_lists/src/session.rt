@@ -18,10 +18,9 @@ use crate::attempts::{attempt_all, attempt_second};
 use crate::desk::TwoLists;
 use crate::frame::put_universe;
 use lx_base::LINE_BYTES;
-use lx_io::{Heap, Sink, SinkFault, Source};
+use lx_io::{Heap, Sink, SinkFault, Source, SystemHeap};
 use lx_lex::{Lines, rest_after, tokens};
-use lx_session::{Answers, SessionFault, Tally, Turn, answer_lines, answer_lines_in};
-use std::alloc::Global;
+use lx_session::{Answers, SessionFault, Tally, Turn, answer_lines_in};
 
 /// Answers the script lines that are left, up to `quit` or the end, on two lists. A line whose first token is `2` is
 /// for the second list, and its rest is read as a line. Any other line is for the first list, but that a tick is of both,
@@ -47,7 +46,8 @@ pub fn two_session<S: Source, K: Sink>(
     ensures cause { HasSessionCause S.Source K.Sink lines.old lines.new sink.old sink.new result }
     ensures handed_on { OnOk result (K.back sink.new ≡ []) }
 {
-    answer_lines(desk, lines, sink)
+    let mut heap = SystemHeap::new(desk.allocator());
+    two_session_in(desk, &mut heap, lines, sink)
 }
 
 /// The same, by a heap: where it refused nothing in this call, no edit was refused for want of memory.
@@ -80,10 +80,6 @@ impl Answers for TwoLists {
     ghost by = { two_answering };
 
     ghost stands = { TwoStand };
-
-    fn allocator(&self) -> Global {
-        self.list(false).allocator()
-    }
 
     fn answer_in<H: Heap, K: Sink>(
         &mut self,

@@ -7,4 +7,4 @@ pub mod laws;
 mod record;
 mod staged;
 
-pub use record::{plan_record, plan_record_in, recorded, recorded_in};
+pub use record::{plan_record_in, recorded, recorded_in};

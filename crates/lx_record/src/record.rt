@@ -46,17 +46,8 @@ pub fn recorded_in<H: Heap>(
     recorded_now(heap, console, n, only)
 }
 
-/// The plan of that record: it makes the show that `recorded` answers, without a copy of the show.
-pub fn plan_record(console: &Console, n: CueNo, only: bool) -> Result<Plan, Refusal>
-    requires { n ≢ 0 }
-    ensures ready { IfOk result (IsReady console.now.show) }
-    ensures plans { (d : Desk) → StandsFor d console.now → PlansRecord console.now.show (recorded d n only) result }
-{
-    let mut heap = SystemHeap::new(console.allocator());
-    plan_record_in(&mut heap, console, n, only)
-}
-
-/// The same, by a heap. `Memory` comes only where the heap refused some in this call and the record isn't refused.
+/// The plan of that record: it makes the show that `recorded` answers, without a copy of the show. `Memory` comes only where the heap
+/// refused some in this call and the record isn't refused.
 pub fn plan_record_in<H: Heap>(
     heap: &mut H,
     console: &Console,

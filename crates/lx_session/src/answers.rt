@@ -8,8 +8,7 @@ ghost use Rattle.lx_session.specs.OneAnswer.{IsLine, IsLawful, OneAnswer};
 ghost use Rattle.lx_session.specs.Spared.{HasStood, spared};
 
 use crate::tally::Tally;
-use lx_io::{Heap, Sink, SinkFault, SystemHeap};
-use std::alloc::Global;
+use lx_io::{Heap, Sink, SinkFault};
 
 /// What answers the lines of a script, one after another: a desk of any kind.
 ///
@@ -21,9 +20,6 @@ pub trait Answers {
 
     /// It stands for the state.
     ghost stands: { by.State → Self → Type 0 };
-
-    /// Where its edits take their memory, where they aren't given a heap.
-    fn allocator(&self) -> Global;
 
     /// Does what a line asks for, then appends its replies and counts them. None stands for a line that is too
     /// long, which is bad. It answers false exactly for `quit`.
@@ -47,25 +43,4 @@ pub trait Answers {
         ensures cause { HasSinkCause K.Sink sink.old sink.new result }
         ensures more { HasOneMore tally.old tally.new }
         ensures lawful { IsLawful by };
-
-    /// The same, by a heap of its own allocator.
-    fn answer<K: Sink>(
-        &mut self,
-        line: Option<&[u8]>,
-        sink: &mut K,
-        tally: &mut Tally,
-    ) -> Result<bool, SinkFault>
-        requires room { TallyHasRoom tally.old }
-        ensures answered { (s : Session by.State) (text : List ℕ) → stands s.state self.old → s.counts ≡ counts_in tally.old
-            → IsLine (option_copied line.entry) text
-            → OneAnswer by K.Sink sink.old sink.new result s text (λ state. stands state self.new)
-            tally.new }
-        ensures quit { IfOk result (λ more. (text : List ℕ) → IsLine (option_copied line.entry) text → more ≡ not (ends_script text)) }
-        ensures cause { HasSinkCause K.Sink sink.old sink.new result }
-        ensures more { HasOneMore tally.old tally.new }
-        ensures lawful { IsLawful by }
-    {
-        let mut heap = SystemHeap::new(self.allocator());
-        self.answer_in(&mut heap, line, sink, tally)
-    }
 }

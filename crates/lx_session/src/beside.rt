@@ -32,7 +32,7 @@ pub(crate) trait AnswersBeside<D> {
     /// They stand for the state, of a session that began so.
     ghost stands: { Since → (all : Bool) → (by all).State → Self → D → Type 0 };
 
-    /// As `Answers::answer`.
+    /// As `Answers::answer_in`.
     fn answer_beside<H: Heap, K: Sink>(
         &mut self,
         lent: &mut D,

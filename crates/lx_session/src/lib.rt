@@ -19,8 +19,6 @@ pub use fault::SessionFault;
 pub use line::{answer, answer_in, answer_inlined};
 pub use listener::{Listener, NoListener};
 pub use quit::is_quit;
-pub use script::{
-    answer_lines, answer_lines_in, session, session_in, session_with, session_with_in,
-};
+pub use script::{answer_lines_in, session, session_in, session_with_in};
 pub use tally::Tally;
 pub use turn::Turn;

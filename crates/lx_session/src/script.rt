@@ -44,32 +44,7 @@ pub fn session<S: Source, K: Sink>(
     ensures cause { HasSessionCause S.Source K.Sink lines.old lines.new sink.old sink.new result }
     ensures handed_on { OnOk result (K.back sink.new ≡ []) }
 {
-    session_with(&mut NoListener, console, lines, sink)
-}
-
-/// As `session`, with a listener: a command that it doesn't admit is refused with `Memory`, and it hears of
-/// each command that is accepted, in order.
-pub fn session_with<L: Listener, S: Source, K: Sink>(
-    listener: &mut L,
-    console: &mut Console,
-    lines: &mut Lines<S>,
-    sink: &mut K,
-) -> Result<Tally, SessionFault>
-    requires going { CanAdvance lines.old }
-    requires within { bytes_taken lines.old ≤ INPUT_BYTES }
-    requires keeps { L.keeps listener.old console.old }
-    ensures same_source { SameSource lines.old lines.new }
-    ensures keeps { L.keeps listener.new console.new }
-    ensures outcome { (d : Desk) → StandsFor d console.old
-        → IfSome (unread S.Source lines.old)
-        (λ bytes. ScriptAnswered (desk_answering (L.admitted_all listener.new)) (HasDone (L.heard listener.old listener.new) d console.new) (begun d)
-        (bytes_taken lines.old) bytes (unread S.Source lines.new) (source_left S.Source lines.new) (K.holds sink.old) (K.holds sink.new) result) }
-    ensures limit { IfSome (unread S.Source lines.old) (λ bytes. KeepsLimit (bytes_taken lines.old) bytes result) }
-    ensures cause { HasSessionCause S.Source K.Sink lines.old lines.new sink.old sink.new result }
-    ensures handed_on { OnOk result (K.back sink.new ≡ []) }
-{
-    let mut heap = SystemHeap::new(console.allocator());
-    session_with_in(listener, &mut heap, console, lines, sink)
+    session_in(&mut SystemHeap::new(console.allocator()), console, lines, sink)
 }
 
 /// As `session`, by a heap: where it refused nothing in this call, no command failed for want of memory.
@@ -94,8 +69,8 @@ pub fn session_in<H: Heap, S: Source, K: Sink>(
     session_with_in(&mut NoListener, heap, console, lines, sink)
 }
 
-/// As `session_with`, by a heap: where it refused nothing in this call and the listener admitted every command, none failed for want of
-/// memory.
+/// As `session_in`, with a listener: a command that it doesn't admit is refused with `Memory`, and it hears of each command that is
+/// accepted, in order. Where the heap refused nothing in this call and every command was admitted, none failed for want of memory.
 pub fn session_with_in<L: Listener, H: Heap, S: Source, K: Sink>(
     listener: &mut L,
     heap: &mut H,
@@ -129,27 +104,8 @@ pub fn session_with_in<L: Listener, H: Heap, S: Source, K: Sink>(
 /// past the limit of the input; the lines before it are then wholly answered. `WriteFault` and `Memory`
 /// come only where the sink answered them; what was written is then a prefix of the whole text. However it
 /// ends, what answers stands for the state after the lines that were done.
-pub fn answer_lines<A: Answers, S: Source, K: Sink>(
-    answerer: &mut A,
-    lines: &mut Lines<S>,
-    sink: &mut K,
-) -> Result<Tally, SessionFault>
-    requires going { CanAdvance lines.old }
-    requires within { bytes_taken lines.old ≤ INPUT_BYTES }
-    ensures same_source { SameSource lines.old lines.new }
-    ensures outcome { (state : A.by.State) → A.stands state answerer.old
-        → IfSome (unread S.Source lines.old)
-        (λ bytes. ScriptAnswered A.by (λ s. A.stands s answerer.new) state (bytes_taken lines.old) bytes
-        (unread S.Source lines.new) (source_left S.Source lines.new) (K.holds sink.old) (K.holds sink.new) result) }
-    ensures limit { IfSome (unread S.Source lines.old) (λ bytes. KeepsLimit (bytes_taken lines.old) bytes result) }
-    ensures cause { HasSessionCause S.Source K.Sink lines.old lines.new sink.old sink.new result }
-    ensures handed_on { OnOk result (K.back sink.new ≡ []) }
-{
-    let mut heap = SystemHeap::new(answerer.allocator());
-    answer_lines_in(answerer, &mut heap, lines, sink)
-}
-
-/// The same, by a heap: where it refused nothing in this call, no attempt failed.
+///
+/// Where the heap refused nothing in this call, no attempt failed.
 pub fn answer_lines_in<A: Answers, H: Heap, S: Source, K: Sink>(
     answerer: &mut A,
     heap: &mut H,

@@ -24,12 +24,11 @@ ghost use Rattle.lx_undo.specs.CommandProgress.{HasReached};
 
 use crate::asked::{ask, give};
 use crate::desk::UndoDesk;
-use lx_io::{Heap, Sink, SinkFault, Source};
+use lx_io::{Heap, Sink, SinkFault, Source, SystemHeap};
 use lx_lex::Lines;
 use lx_script::{LineWithUndo, read_line_with_undo};
-use lx_session::{Answers, SessionFault, Tally, Turn, answer_lines, answer_lines_in};
+use lx_session::{Answers, SessionFault, Tally, Turn, answer_lines_in};
 use lx_spec::{Line, Refusal, UndoLine};
-use std::alloc::Global;
 
 /// Answers the script lines that are left, up to `quit` or the end, on a desk with its history: those of a session, and
 /// `undo`, `redo` and `record n [only]`. Each line is done and its replies appended before the next is awaited.
@@ -54,7 +53,8 @@ pub fn undo_session<S: Source, K: Sink>(
     ensures cause { HasSessionCause S.Source K.Sink lines.old lines.new sink.old sink.new result }
     ensures handed_on { OnOk result (K.back sink.new ≡ []) }
 {
-    answer_lines(desk, lines, sink)
+    let mut heap = SystemHeap::new(desk.console().allocator());
+    undo_session_in(desk, &mut heap, lines, sink)
 }
 
 /// The same, by a heap: where it refused nothing in this call, no edit and no record was refused for want of memory.
@@ -87,10 +87,6 @@ impl Answers for UndoDesk {
     ghost by = { undo_answering };
 
     ghost stands = { UndoStands };
-
-    fn allocator(&self) -> Global {
-        self.console().allocator()
-    }
 
     fn answer_in<H: Heap, K: Sink>(
         &mut self,

@@ -1,5 +1,0 @@
-use Rattle.lx_session.proofs.Imports.{false}
-use Rattle.lx_session.proofs.script.session_with.Goals as goal
-
-pub returns-clause-outcome : goal.returns-clause-outcome
-returns-clause-outcome g c = λ d stands. c.session_with_in.ensures.outcome false (λ no. absurd cc) d stands
