@@ -131,9 +131,9 @@ is_live ample show published unsent console script lines failures allows done =
 -- What was played, as it is told: over a show, for this many universes.
 module _ {K : Type 0} (ample : AmpleMemory) (told : ToldBySink K) (show : Show) (universes : ℕ)
     (outlets outlets' : List (Option K)) (published unsent : List Command) (got : HaveGot told show universes outlets outlets' published)
-    (all : ample.versions ≡ true → unsent ≡ []) where
+    (none_left : ample.versions ≡ true → unsent ≡ []) where
   served : (commands : List Command) → commands ≡ published ++ unsent → AreServed ample.versions told show universes outlets outlets' commands
-  served commands is = record { published = published; held_back = unsent; commands_are = is; all_published = all; got = got }
+  served commands is = record { published = published; held_back = unsent; commands_are = is; all_published = none_left; got = got }
 
   in_front : (bytes : List ℕ) (unread held held' : Option (List ℕ)) (console : Kept)
       → AnsweredPrefix (engine_of ample.edits published unsent) (Done show published unsent console) (begun (opened show)) bytes unread held held'
@@ -242,8 +242,8 @@ module _ {K : Type 0} (ample : AmpleMemory) (outlet_told : ToldBySink K) (show :
     (is : used ≡ take universes outlets) (count : length used ≡ universes) (behind : rest ≡ drop universes outlets)
     (counted : n ≡ length unsent) (d : AreDelivered outlet_told show used used' results published)
     (sent : ample.versions ≡ true → n ≡ 0) where
-  all : ample.versions ≡ true → unsent ≡ []
-  all known = none_unsent unsent n counted (sent known)
+  none_left : ample.versions ≡ true → unsent ≡ []
+  none_left known = none_unsent unsent n counted (sent known)
 
   abbrev got : HaveGot outlet_told show universes outlets (used' ++ rest) published
   got = have_got outlet_told show universes outlets used used' rest results published is count behind d
@@ -252,7 +252,7 @@ module _ {K : Type 0} (ample : AmpleMemory) (outlet_told : ToldBySink K) (show :
       → AnsweredWhole (engine_of ample.edits published unsent) (Done show published unsent console) (begun (opened show)) (lines_of bytes) held held' tally
       → PlaysInFront ample outlet_told show universes (lines_of bytes) held held' outlets (used' ++ rest)
   whole bytes held held' console tally a =
-      whole_in_front ample outlet_told show universes outlets (used' ++ rest) published unsent got all (lines_of bytes) held held' console
+      whole_in_front ample outlet_told show universes outlets (used' ++ rest) published unsent got none_left (lines_of bytes) held held' console
       tally a
 
   live_at : (bytes : List ℕ) (unread left held held' : Option (List ℕ)) (console : Kept) (session : Result Tally SessionFault) (s : Status)
@@ -273,7 +273,7 @@ module _ {K : Type 0} (ample : AmpleMemory) (outlet_told : ToldBySink K) (show :
   live_at bytes unread left held held' console (Ok tally) status.Live tells a limit = absurd tells
   live_at bytes unread left held held' console (Err fault) s tells a limit =
       subst (λ (t : Status). HasPlayedLive ample t outlet_told show universes before bytes left held held' outlets (used' ++ rest)) (sym tells)
-      (live_fault ample outlet_told show universes outlets (used' ++ rest) published unsent got all before bytes unread left held held'
+      (live_fault ample outlet_told show universes outlets (used' ++ rest) published unsent got none_left before bytes unread left held held'
       console fault a limit)
 
   -- the same, where the source may tell no bytes
@@ -295,7 +295,7 @@ module _ {K : Type 0} (ample : AmpleMemory) (outlet_told : ToldBySink K) (show :
         failures = a.failures;
         allows = live.allows;
         text = subst (λ (s : Session DeskState). Appends held held' s.text) live.same a.text;
-        served = record { published = published; held_back = unsent; commands_are = live.accepted; all_published = all; got = got };
+        served = record { published = published; held_back = unsent; commands_are = live.accepted; all_published = none_left; got = got };
         told = told;
       }
 
