@@ -44,7 +44,12 @@ pub fn session<S: Source, K: Sink>(
     ensures cause { HasSessionCause S.Source K.Sink lines.old lines.new sink.old sink.new result }
     ensures handed_on { OnOk result (K.back sink.new ≡ []) }
 {
-    session_in(&mut SystemHeap::new(console.allocator()), console, lines, sink)
+    session_in(
+        &mut SystemHeap::new(console.allocator()),
+        console,
+        lines,
+        sink,
+    )
 }
 
 /// As `session`, by a heap: where it refused nothing in this call, no command failed for want of memory.
