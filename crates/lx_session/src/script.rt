@@ -44,12 +44,8 @@ pub fn session<S: Source, K: Sink>(
     ensures cause { HasSessionCause S.Source K.Sink lines.old lines.new sink.old sink.new result }
     ensures handed_on { OnOk result (K.back sink.new ≡ []) }
 {
-    session_in(
-        &mut SystemHeap::new(console.allocator()),
-        console,
-        lines,
-        sink,
-    )
+    let mut heap = SystemHeap::new(console.allocator());
+    session_in(&mut heap, console, lines, sink)
 }
 
 /// As `session`, by a heap: where it refused nothing in this call, no command failed for want of memory.
