@@ -7,6 +7,10 @@ pub of_job : (ws : List (List ℕ)) (left : Option (List ℕ)) (P : Job → List
     → IfSome (given_to job left) (P job) → OfJob ws left P
 of_job ws left P job named p = subst (λ (o : Option Job). IfSome o (λ j. IfSome (given_to j left) (P j))) (sym named) p
 
+pub of_run : (o : Option Job) (left : Option (List ℕ)) (P : ℕ → Form → List ℕ → Type 0) (universes : ℕ) (form : Form)
+    → o ≡ Some (Script (Live universes) form) → IfSome left (P universes form) → OfRun o left P
+of_run o left P universes form named p = subst (λ (job : Option Job). OfRun job left P) (sym named) p
+
 -- and what holds of each job, and of each crew
 each_given : (left : Option (List ℕ)) (P : List ℕ → Type 0) → ((bytes : List ℕ) → P bytes) → IfSome left P
 each_given None P p = tt

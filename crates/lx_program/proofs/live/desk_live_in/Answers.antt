@@ -1,6 +1,6 @@
 use Rattle.lx_program.proofs.Imports.{inl, ap, refl, true, false, map, string_bytes, job_of, Option, Job, subst, sym}
 use Rattle.std.proofs.Common.{inr, Err}
-use Rattle.lx_program.proofs.JobWords.{of_each_run, of_no_run}
+use Rattle.lx_program.proofs.JobWords.{of_each_run, of_no_run, of_run}
 use Rattle.lx_program.proofs.NothingBegun.{keeps_outlets, none_lived}
 use Rattle.lx_desk.specs.Live.{KeepsOutlets}
 use Rattle.lx_desk.specs.declared.desk.Status.TheVariants as status
@@ -54,3 +54,11 @@ pub returns-in-Ok-clause-outlets : goal.returns-in-Ok-clause-outlets
 returns-in-Ok-clause-outlets g c =
     subst (λ (o : Option Job). KeepsOutlets g.K.Sink o c.run_live_in.result c.args.input.now c.run_live_in.new.input c.args.output.now
     c.run_live_in.new.output c.args.outlets.now c.run_live_in.new.outlets) (sym c.in-Ok.ensures.run) c.run_live_in.ensures.outlets
+
+pub returns-in-Ok-clause-ended : goal.returns-in-Ok-clause-ended
+returns-in-Ok-clause-ended g c = λ ample stood sent.
+    of_run _ _ _ _ _ c.in-Ok.ensures.run (c.run_live_in.ensures.ended ample stood sent)
+
+pub returns-in-Ok-clause-order : goal.returns-in-Ok-clause-order
+returns-in-Ok-clause-order g c = λ ample stood sent.
+    of_run _ _ _ _ _ c.in-Ok.ensures.run (c.run_live_in.ensures.order ample stood sent)
