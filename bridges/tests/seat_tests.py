@@ -92,13 +92,12 @@ def faders_by_arrows(_program: str) -> List[str]:
     with Seat(path) as seat:
         for key in ("Right", "Up", "Up", "Down", "Down", "Down", "Up", "Up"):
             seat.keys(key)
-        seat.until("fader 1 at 10: ok$")
-        shown = seat.shown()
-        levels = [line for _, line in shown.played]
+        # Only the last lines have room on the screen. The fader is at 10 twice, so all three are waited for.
+        levels = ["fader 1 at 0", "fader 1 at 5", "fader 1 at 10"]
+        rig.until(lambda: [line for _, line in seat.shown().played] == levels, f"the screen says {levels}")
         seat.keys("q")
         seat.left()
-        # Only the last lines have room on the screen.
-        return [] if levels == ["fader 1 at 0", "fader 1 at 5", "fader 1 at 10"] else [f"said {levels}"]
+    return []
 
 
 def saved_and_left(_program: str) -> List[str]:
