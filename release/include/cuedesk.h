@@ -3,7 +3,7 @@
        cuedesk desk = CUEDESK_CLOSED_DESK;
        cuedesk_report report;
        if (cuedesk_open(&desk, text, text_len, false, &report) != CUEDESK_OK) ..
-       cuedesk_command(&desk, "go", 2, reply, sizeof reply, &reply_len);
+       cuedesk_command(&desk, (const uint8_t *)"go", 2, reply, sizeof reply, &reply_len);
        cuedesk_tick(&desk, 1, &accepted);
        cuedesk_frame(&desk, 1, slots, CUEDESK_SLOTS);
        cuedesk_close(&desk);
@@ -76,7 +76,7 @@ enum cuedesk_status {
     CUEDESK_OPEN = 2,          /* the desk is open already */
     CUEDESK_MEMORY = 3,        /* out of memory */
     CUEDESK_SHOW_REFUSED = 4,  /* the show's text has a fault: the report tells which, and its line */
-    CUEDESK_TOO_LONG = 5,      /* the show's text is longer than 67,108,864 bytes */
+    CUEDESK_TOO_LONG = 5,      /* the show's text up to its line ENDDATA, or to its first fault, is longer than 67,108,864 bytes */
     CUEDESK_NOT_A_LINE = 6,    /* there is a LF or a CR among the bytes of the line */
     CUEDESK_OUT_OF_RANGE = 7,  /* there is no such universe, channel, submaster or cue number, or no room of just 512 bytes */
     CUEDESK_QUIT = 8,          /* the line was `quit`: nothing was done, and the desk stays open */
@@ -122,7 +122,8 @@ typedef struct {
 uint32_t cuedesk_version(void);
 
 /* Opens a closed desk over a show's text (docs/FORMATS.md), at moment 0 before the first cue. Levels of cues are moves, or with
-   `states` whole looks. The text is read up to its line ENDDATA, and isn't needed after the call.
+   `states` whole looks. The text is read up to its line ENDDATA, and isn't needed after the call. How much stands behind that line
+   doesn't matter. The reply of a desk that was just opened is empty.
 
    OK; OPEN where the desk isn't closed; SHOW_REFUSED, with the first fault in `report`; TOO_LONG; MEMORY. Without OK an open desk goes on
    as it was, and a closed one is closed. `report` is set by each call that finds the desk closed and isn't OK, to no fault but with
@@ -137,15 +138,17 @@ uint32_t cuedesk_open_undo(cuedesk *desk, const uint8_t *text, size_t text_len, 
 void cuedesk_close(cuedesk *desk);
 
 /* Does one line of a script (docs/FORMATS.md), without its line end, and puts its reply, each line of it with its LF, into `reply`,
-   which has room for `reply_cap` bytes. `reply_len` is set to how many bytes the whole reply has. Where that is more than there is room
-   for the front of it stands there, and `cuedesk_reply` gives the rest: the reply is kept up to the next line.
+   which has room for `reply_cap` bytes. `reply_len` is set to how many bytes the whole reply has, or with MEMORY to how many of them are
+   kept. Where that is more than there is room for the front of it stands there, and `cuedesk_reply` gives the rest: the reply is kept up
+   to the next line. Where it is shorter, the room behind it is as it was.
 
    OK: the line was done, and its whole reply stands in `reply`. A line that is refused or bad is answered so, and with OK. MORE: as OK,
-   but that there was no room for all of it. QUIT: the line is `quit`. MEMORY: the line was done, and of its reply a front is kept.
-   CLOSED, NOT_A_LINE: nothing was done, and the reply before is kept. */
+   but that there was no room for all of it. QUIT: the line is `quit`, whose reply is empty. MEMORY: the line was done, and of its reply
+   a front is kept. CLOSED, NOT_A_LINE: nothing was done, and the reply before is kept. */
 uint32_t cuedesk_command(cuedesk *desk, const uint8_t *line, size_t line_len, uint8_t *reply, size_t reply_cap, size_t *reply_len);
 
 /* Puts the bytes of the last line's reply from place `from` on, as many as there are and fit, into `out`, and their count into `len`.
+   Behind them `out` is as it was.
 
    OK, also with none where `from` is at the end or past it; CLOSED. */
 uint32_t cuedesk_reply(cuedesk *desk, size_t from, uint8_t *out, size_t cap, size_t *len);
