@@ -71,6 +71,7 @@ impl Levels {
     pub fn open(alloc: Global, show: &Show) -> Result<Levels, AllocError>
         ensures moment { IfOk result (λ levels. levels.moment ≡ 0) }
         ensures reach { IfOk result (λ levels. length levels.stacks ≡ show.now.channels) }
+        ensures levels { IfOk result (λ levels. (k : ℕ) → level_at levels k ≡ 0) }
         ensures valid { Valid show.now }
     {
         Levels::open_in(&mut SystemHeap::new(alloc), show)
@@ -80,6 +81,7 @@ impl Levels {
     pub fn open_in<H: Heap>(heap: &mut H, show: &Show) -> Result<Levels, AllocError>
         ensures moment { IfOk result (λ levels. levels.moment ≡ 0) }
         ensures reach { IfOk result (λ levels. length levels.stacks ≡ show.now.channels) }
+        ensures levels { IfOk result (λ levels. (k : ℕ) → level_at levels k ≡ 0) }
         ensures valid { Valid show.now }
         ensures cause { HasCause (H.refusals heap.old) (H.refusals heap.new) result }
     {
