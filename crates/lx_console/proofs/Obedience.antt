@@ -8,6 +8,8 @@ use Rattle.std.proofs.lemmas.List.Sums.{fold-append}
 use Rattle.lx_spec.specs.declared.Edit.{Edit}
 use Rattle.lx_spec.specs.declared.Key.TheVariants.{Play, Fader, Master}
 use Rattle.lx_spec.specs.declared.Command.TheVariants as commands
+use Rattle.lx_spec.specs.declared.Refusal.TheVariants.{Memory}
+use Rattle.lx_spec.specs.WantedMemory.{takes_memory}
 
 -- a console that is all of a replayed desk but its list of runs stands for it
 pub stands_replay : (show : Show) (done : List Command) (console : Kept) → console ≡ kept (replay show done)
@@ -159,10 +161,11 @@ edited_ok : (d : Desk) (r : Result Show Refusal) (now : Kept) → IfOk (r >>= (�
 edited_ok d (Ok show) now rest is = record { same = is; rest = rest }
 edited_ok d (Err refusal) now rest is = absurd is
 
-edited_err : (d : Desk) (edit : Edit) (refusal : Refusal) → IsRefusal d.show edit refusal → Refuses d (commands.Edit edit) refusal
-edited_err d edit refusal r = elim r as (λ s. Refuses d (commands.Edit edit) refusal) [
+edited_err : (d : Desk) (edit : Edit) (refusal : Refusal) → (refusal ≡ Memory → takes_memory edit ≡ true) → IsRefusal d.show edit refusal
+    → Refuses d (commands.Edit edit) refusal
+edited_err d edit refusal takes r = elim r as (λ s. Refuses d (commands.Edit edit) refusal) [
   | inl own ↦ inl (ap (λ r. r >>= (λ show. Ok (record d { show = show }))) own)
-  | inr want ↦ inr (record { edit = refl; memory = want.0; accepted = accepted d (edited d.show edit) want.1 })
+  | inr want ↦ inr (record { takes_some = takes want.0; memory = want.0; accepted = accepted d (edited d.show edit) want.1 })
 ] where
   accepted : (d : Desk) (r : Result Show Refusal) → IsOk r → IsOk (r >>= (λ show. Ok (record d { show = show })))
   accepted d (Ok show) ok = refl
@@ -171,14 +174,14 @@ edited_err d edit refusal r = elim r as (λ s. Refuses d (commands.Edit edit) re
 -- an edit
 pub answers_edit : {A : Type 0} (d : Desk) (edit : Edit) (answer : Result A Refusal) (before now : Kept) → StandsFor d before
     → OnOk answer (IsOkAnd (edited before.show edit) (λ show. now ≡ record before { show = show }))
-    → IfErr answer (IsRefusal before.show edit)
+    → IfErr answer (IsRefusal before.show edit) → (answer ≡ Err Memory → takes_memory edit ≡ true)
     → Answers d (commands.Edit edit) answer now
-answers_edit d edit (Ok x) before now stands ok err = record {
+answers_edit d edit (Ok x) before now stands ok err takes = record {
   ok = edited_ok d (edited d.show edit) now (kept-step d (commands.Edit edit) stands.rest)
       (subst (λ (k : Kept). IsOkAnd (edited k.show edit) (λ show. now ≡ record k { show = show })) stands.same ok);
   err = tt;
 }
-answers_edit d edit (Err refusal) before now stands ok err = record {
+answers_edit d edit (Err refusal) before now stands ok err takes = record {
   ok = tt;
-  err = edited_err d edit refusal (subst (λ (k : Kept). IsRefusal k.show edit refusal) stands.same err);
+  err = edited_err d edit refusal (λ memory. takes (ap Err memory)) (subst (λ (k : Kept). IsRefusal k.show edit refusal) stands.same err);
 }

@@ -6,7 +6,8 @@ use Rattle.lx_spec.specs.declared.Command.{Command}
 use Rattle.lx_spec.specs.declared.Refusal.{Refusal}
 use Rattle.lx_spec.specs.declared.Refusal.TheVariants.{Memory}
 use Rattle.lx_spec.specs.Level.{level}
-use Rattle.lx_spec.specs.Desk.{Desk, step, is_edit}
+use Rattle.lx_spec.specs.Desk.{Desk, step}
+use Rattle.lx_spec.specs.WantedMemory.{may_lack_memory}
 use Rattle.lx_spec.specs.Output.{contribution}
 use Rattle.lx_spec.specs.Kept.{Kept, kept}
 use Rattle.lx_spec.specs.Laws.{KeepsRest}
@@ -30,17 +31,17 @@ pub record Obeys {A : Type 0} (d : Desk) (command : Command) (answer : Result A 
   pub ok : OnOk answer (IsOkAnd (step d command) (λ next. StandsFor next console))
   pub err : IfErr answer (λ refusal. step d command ≡ Err refusal)
 
--- lack of memory refuses an edit that the desk accepts
+-- lack of memory refuses an edit that may take some, and that the desk accepts
 pub record WantsMemory (d : Desk) (command : Command) (refusal : Refusal) : Type 0 where
-  pub edit : is_edit command ≡ true
+  pub takes_some : may_lack_memory command ≡ true
   pub memory : refusal ≡ Memory
   pub accepted : IsOk (step d command)
 
--- a refusal is the desk's own, or lack of memory at an edit
+-- a refusal is the desk's own, or lack of memory at an edit that may take some
 abbrev pub Refuses : Desk → Command → Refusal → Type 0
 Refuses d command refusal = (step d command ≡ Err refusal) ⊎ WantsMemory d command refusal
 
--- As `Obeys`, but that an edit may be refused for lack of memory.
+-- As `Obeys`, but that an edit that may take memory may be refused for lack of it.
 pub record Answers {A : Type 0} (d : Desk) (command : Command) (answer : Result A Refusal) (console : Kept) : Type 0 where
   pub ok : OnOk answer (IsOkAnd (step d command) (λ next. StandsFor next console))
   pub err : IfErr answer (Refuses d command)

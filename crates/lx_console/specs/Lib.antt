@@ -6,4 +6,3 @@ pub mod Laws
 pub mod RunChanges
 pub mod Ticks
 pub mod UnseenEdits
-pub mod WantedMemory

@@ -10,6 +10,7 @@ ghost use Rattle.lx_spec.specs.Playback.{position_of};
 ghost use Rattle.lx_spec.specs.TrackedLevel.{cue_of, tracked};
 ghost use Rattle.lx_spec.specs.Replies.{row_of};
 ghost use Rattle.lx_spec.specs.ValidEdit.{ValidCommand};
+ghost use Rattle.lx_spec.specs.WantedMemory.{may_lack_memory};
 ghost use Rattle.lx_spec.specs.Output.{dimmer_value, fader, frame};
 ghost use Rattle.lx_spec.specs.Desk.{Desk, opened};
 ghost use Rattle.lx_playback.specs.QuietTicks.{moments_later};
@@ -19,7 +20,6 @@ ghost use Rattle.lx_mixer.specs.Table.{IsTable};
 ghost use Rattle.lx_console.specs.Slots.{universe};
 ghost use Rattle.lx_console.specs.ConsoleMeaning.{StandsFor, Obeys, Answers, level_now, out_now};
 ghost use Rattle.lx_console.specs.Ticks.{after_ticks};
-ghost use Rattle.lx_console.specs.WantedMemory.{may_lack_memory};
 
 use crate::kept_output::KeptOutput;
 use crate::player::{Applied, Player};

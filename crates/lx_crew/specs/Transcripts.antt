@@ -13,11 +13,11 @@ use Rattle.lx_session.specs.declared.tally.Tally.{Tally}
 use Rattle.lx_session.specs.LineReply.{counts_in}
 use Rattle.lx_session.specs.Spared.{spared}
 
--- In the session of a crew attempts failed only at edits that the desk accepts, and where memory was ample none did.
+-- In the session of a crew attempts failed only at edits that may take memory and that the desk accepts, and where memory was ample none did.
 abbrev pub CrewAllowsBy : (ample : Bool) → Desk → List CrewEntry → List (Option ℕ) → Type 0
 CrewAllowsBy ample d entries failures = AreAllowed (spared ample crew_answering) failures (begin_at (begun d)) entries
 
--- The whole transcript was written, and the console stands for the desk after it. Attempts failed only at edits.
+-- The whole transcript was written, and the console stands for the desk after it. Attempts failed only at edits that may take memory.
 pub record WholeTranscript (ample : Bool) (d : Desk) (lines : ℕ → List (List ℕ)) (held held' : Option (List ℕ)) (console : Kept)
     (tally : Tally) : Type 0 where
   pub entries : List CrewEntry

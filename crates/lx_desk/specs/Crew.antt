@@ -39,7 +39,7 @@ pub record IsLowest (told : List (Option OperatorFault)) (fault : OperatorFault)
   pub below : (lower : ℕ) (other : Option OperatorFault) → lower < place → slice_get told lower ≡ Some other → other ≡ None
 
 -- The whole text of a crew was written: the lines of all operators, each once and in its operator's order, and each with its replies.
--- Attempts failed only at edits; and here and below none did where memory was ample.
+-- Attempts failed only at edits that may take memory; and here and below none did where memory was ample.
 pub record WritesTranscript (ample : Bool) (show : Show) (lines : ℕ → List (List ℕ)) (held held' : Known) : Type 0 where
   pub entries : List CrewEntry
   pub merged : Merged lines entries
@@ -101,7 +101,7 @@ HasCrewEnded ample told count form bytes left operators operators' held held' s 
     ⊎ ServesShow ample told count form bytes operators operators' held held' s
 
 -- A prefix of the text of a crew was written: of each operator in use first lines up to `quit` or the end, numbered from 1, and of
--- no other any. The text of all of them but the last was written whole. Attempts failed only at edits.
+-- no other any. The text of all of them but the last was written whole. Attempts failed only at edits that may take memory.
 pub record WritesFirstLines {S : Type 0} (told : ToldBySource S) (show : Show) (count : ℕ) (operators : List (Option S)) (held held' : Known)
     : Type 0 where
   pub entries : List CrewEntry

@@ -56,7 +56,8 @@ abbrev pub ByLiveMemory : (refusals refusals' writers writers' : ℕ) → (Ample
 ByLiveMemory refusals refusals' writers writers' P =
     (ample : AmpleMemory) → (ample.edits ≡ true → HasStood refusals refusals') → (ample.versions ≡ true → HasStood writers writers') → P ample
 
--- As long as fewer than 2^62 commands were accepted attempts failed only at edits that the desk accepts, and where memory was ample none did.
+-- As long as fewer than 2^62 commands were accepted attempts failed only at edits that may take memory and that the desk accepts, and where
+-- memory was ample none did.
 abbrev pub LiveAllows : (ample : Bool) → Show → List (List ℕ) → List (Option ℕ) → (accepted : List Command) → Type 0
 LiveAllows ample show script failures accepted = Allows (engine_answering ample accepted) (begun (opened show)) script failures
 

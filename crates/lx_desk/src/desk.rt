@@ -42,7 +42,7 @@ pub enum Status {
 /// refused show, the line or the cue list of a show, or the replies to a script. In these each command is done or refused
 /// as the desk does it, and each frame is evaluated over the whole show as it then is and the whole list of runs since the
 /// opening. By `undo` edits and records are undone and redone besides, and by `two` it is so of two desks beside each other.
-/// `make` reads nothing. Out of memory refuses nothing but edits and records.
+/// `make` reads nothing. Out of memory refuses nothing but records, and edits that may take memory.
 ///
 /// With Ok and ShowRefused no read and no write failed, and all that was written is handed on. Memory is told only before
 /// anything is written, or where the output itself is out of memory.

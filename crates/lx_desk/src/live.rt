@@ -31,7 +31,7 @@ use std::thread::Threads;
 /// at once. Beside it a worker for each of the universes from 1 on, in a thread of its own, writes to the outlet at the
 /// universe's place. It writes the line of each newer version that it meets: `frame`, how many commands led to it, and the
 /// frame. No line is of two versions, and at the end the last one is of all accepted commands. As long as fewer than 2^62
-/// commands were accepted, a line is refused with `Memory` only where it is an edit that the desk accepts.
+/// commands were accepted, a line is refused with `Memory` only where it is an edit that may take memory and that the desk accepts.
 ///
 /// The fault of the session decides the status first, then a write that failed in an outlet, and then that memory was short. An outlet
 /// that fails is ended, and no other. The answer is never Live. With Ok no read and no write failed, in no outlet in use either, and all

@@ -4,4 +4,3 @@ pub mod Kept
 pub mod ChanSet
 pub mod CueChanges
 pub mod Undone
-pub mod WantedMemory

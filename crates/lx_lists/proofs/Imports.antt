@@ -19,7 +19,7 @@ pub use Rattle.lx_session.specs.Attempts.{Attempted, heard_of}
 pub use Rattle.lx_session.specs.LineProgress.{LineProgress}
 pub use Rattle.lx_session.specs.LineState.{frame_of, LineState, meaning_of, next_of, unattempted}
 pub use Rattle.lx_session.specs.OneAnswer.{ExtendsText, IsLawful, IsLine, OneAnswer}
-pub use Rattle.lx_spec.specs.Desk.{after_command, after_play, Desk, is_edit, opened, step}
+pub use Rattle.lx_spec.specs.Desk.{after_command, after_play, Desk, opened, step}
 pub use Rattle.lx_spec.specs.DeskSession.{after_attempts, Attempt, begun, command_of, DeskState, tried}
 pub use Rattle.lx_spec.specs.FirstRefusal.{◌>>=◌}
 pub use Rattle.lx_spec.specs.Kept.{Kept, kept}
@@ -32,6 +32,7 @@ pub use Rattle.lx_spec.specs.SortedList.{entry_at, has_entry, IsStrictlySorted, 
 pub use Rattle.lx_spec.specs.TwoLists.{commands_second, first_answer, first_show, first_step, frame_of_two, is_for_second, is_of_second, is_tick}
 pub use Rattle.lx_spec.specs.TwoLists.{leads_with_two, opened_two, out_of_two, second_answer, second_meaning, second_show, second_step, tick_step, two_answer}
 pub use Rattle.lx_spec.specs.TwoLists.{two_answering, TwoDesks, TwoMayFail, where_of_second}
+pub use Rattle.lx_spec.specs.WantedMemory.{may_lack_memory}
 pub use Rattle.lx_spec.specs.declared.Command.{Command}
 pub use Rattle.lx_spec.specs.declared.Line.{Line}
 pub use Rattle.lx_spec.specs.declared.Refusal.{Refusal}

@@ -1,8 +1,9 @@
 -- One attempt more of a line, and what it makes of the other list.
 use Rattle.lx_lists.proofs.Imports.{◌≡◌, ◌-◌, true, false, Option, Some, None, Result, Ok, Err, List, [], ◌++◌, refl, sym, ap, subst, inl, inr}
 use Rattle.lx_lists.proofs.Imports.{IsOkAnd, ◌⊎◌, OnErr, IsOk, filter, fold, result_err, result_unwrap_or, fold-append, Command, Refusal, ◌>>=◌, Desk}
-use Rattle.lx_lists.proofs.Imports.{step, after_command, Kept, is_edit, begun, TwoDesks, is_tick, first_step, second_step, StandsFor, Obeys, Refuses, Attempted}
+use Rattle.lx_lists.proofs.Imports.{step, after_command, Kept, begun, TwoDesks, is_tick, first_step, second_step, StandsFor, Obeys, Refuses, Attempted}
 use Rattle.lx_lists.proofs.Imports.{heard_of, LineState, next_of, unattempted, LineProgress, TwoKept, TwoStand, TakesStep, TwoWantMemory, TicksReach, Stays}
+use Rattle.lx_lists.proofs.Imports.{may_lack_memory}
 use Rattle.std.proofs.lemmas.List.Elements.{filter-append}
 use Rattle.lx_spec.specs.declared.Command.TheVariants as commands
 use Rattle.lx_session.proofs.AttemptSteps.{nothing_yet, attempted}
@@ -42,22 +43,22 @@ own_ok next (Ok d) ok = ok
 own_ok next (Err own) ok = ok
 
 refuses : (next : Desk → TwoDesks) (d : Desk) (c : Command) (refusal : Refusal)
-    → (step d c >>= (λ e. Ok (next e)) ≡ Err refusal) ⊎ TwoWantMemory (is_edit c) (step d c >>= (λ e. Ok (next e))) refusal
+    → (step d c >>= (λ e. Ok (next e)) ≡ Err refusal) ⊎ TwoWantMemory (may_lack_memory c) (step d c >>= (λ e. Ok (next e))) refusal
     → Refuses d c refusal
 refuses next d c refusal refused = elim refused [
   | inl own ↦ inl (own_err next (step d c) refusal own)
-  | inr want ↦ inr (record { edit = want.takes_some; memory = want.memory; accepted = own_ok next (step d c) want.accepted })
+  | inr want ↦ inr (record { takes_some = want.takes_some; memory = want.memory; accepted = own_ok next (step d c) want.accepted })
 ]
 
 pub first_attempted : {A : Type 0} (s : TwoDesks) (c : Command) (answer : Result A Refusal) (before now : TwoKept) → TwoStand s before
-    → TakesStep (is_edit c) (first_step s c) answer now → OnErr answer (now ≡ before)
+    → TakesStep (may_lack_memory c) (first_step s c) answer now → OnErr answer (now ≡ before)
     → Attempted true s.first c (result_err answer) now.first
 first_attempted s c (Ok x) before now stands steps same = one_ok (step s.first c) s now steps.ok
 first_attempted s c (Err refusal) before now stands steps same =
     (subst (λ (t : TwoKept). StandsFor s.first t.first) (sym same) stands.first, refuses (λ d. record s { first = d }) s.first c refusal steps.err)
 
 pub second_attempted : {A : Type 0} (s : TwoDesks) (c : Command) (answer : Result A Refusal) (before now : TwoKept) → TwoStand s before
-    → TakesStep (is_edit c) (second_step s c) answer now → OnErr answer (now ≡ before)
+    → TakesStep (may_lack_memory c) (second_step s c) answer now → OnErr answer (now ≡ before)
     → Attempted true s.second c (result_err answer) now.second
 second_attempted s c (Ok x) before now stands steps same = other_ok (step s.second c) s now steps.ok
 second_attempted s c (Err refusal) before now stands steps same = (

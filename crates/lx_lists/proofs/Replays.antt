@@ -1,7 +1,7 @@
 -- Calls of two lists one after another, from the opening on.
 use Rattle.lx_lists.proofs.Imports.{◌≡◌, ◌≢◌, ℕ, ◌≤◌, Bool, false, Result, Ok, Err, List, [], ◌∷◌, map, fold, OnErr, IsOkAnd}
 use Rattle.lx_lists.proofs.Imports.{AllByRecursion, result_unwrap_or, ap, sym, subst, inl, inr, fold-append, SLOTS, UNIVERSES, Refusal, Memory, Show}
-use Rattle.lx_lists.proofs.Imports.{dimmer_value, is_edit, TwoDesks, opened_two, tick_step, frame_of_two, IsTable, universe, TwoKept, TwoStand, Steps}
+use Rattle.lx_lists.proofs.Imports.{dimmer_value, may_lack_memory, TwoDesks, opened_two, tick_step, frame_of_two, IsTable, universe, TwoKept, TwoStand, Steps}
 use Rattle.lx_lists.proofs.Imports.{TakesStep, out_of_both}
 use Rattle.lx_lists.specs.Laws.{Call, First, Second, TickBoth, Done, IsAnswered, AreDone, after_call, call_step, replay_two}
 use Rattle.lx_lists.specs.Laws.{kept_after, accepted, if_accepted}
@@ -22,8 +22,8 @@ no_memory takes r (Ok x) t steps = record { ok = steps.ok; err = tt }
 no_memory takes r (Err refusal) t steps = record { ok = tt; err = inl steps.err }
 
 abbrev wants : Call → Bool
-wants (First command) = is_edit command
-wants (Second command) = is_edit command
+wants (First command) = may_lack_memory command
+wants (Second command) = may_lack_memory command
 wants TickBoth = false
 
 -- each call takes its step

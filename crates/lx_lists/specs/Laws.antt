@@ -8,7 +8,7 @@ use Rattle.lx_spec.specs.declared.Refusal.{Refusal}
 use Rattle.lx_spec.specs.declared.Refusal.TheVariants.{Memory}
 use Rattle.lx_spec.specs.Show.{Show}
 use Rattle.lx_spec.specs.Output.{dimmer_value}
-use Rattle.lx_spec.specs.Desk.{is_edit}
+use Rattle.lx_spec.specs.WantedMemory.{may_lack_memory}
 use Rattle.lx_spec.specs.TwoLists.{TwoDesks, opened_two, first_step, second_step, tick_step, frame_of_two}
 use Rattle.lx_mixer.specs.Table.{IsTable}
 use Rattle.lx_console.specs.Slots.{universe}
@@ -43,9 +43,9 @@ pub record Done : Type 0 where
 -- the call was answered as the calls of two lists promise
 abbrev pub IsAnswered : TwoKept → Call → Result (Unit {0}) Refusal → TwoKept → Type 0
 IsAnswered before (First command) answer after =
-    (s : TwoDesks) → TwoStand s before → TakesStep (is_edit command) (first_step s command) answer after
+    (s : TwoDesks) → TwoStand s before → TakesStep (may_lack_memory command) (first_step s command) answer after
 IsAnswered before (Second command) answer after =
-    (s : TwoDesks) → TwoStand s before → TakesStep (is_edit command) (second_step s command) answer after
+    (s : TwoDesks) → TwoStand s before → TakesStep (may_lack_memory command) (second_step s command) answer after
 IsAnswered before TickBoth answer after = (s : TwoDesks) → TwoStand s before → Steps (tick_step s) answer after
 
 -- and a refusal left what is kept

@@ -4,14 +4,13 @@ ghost use Rattle.std.specs.Prelude.{◌≡◌, ◌≢◌, ℕ, ◌≤◌, true, 
 ghost use Rattle.lx_base.specs.declared.TheConstants.{SLOTS, UNIVERSES};
 ghost use Rattle.lx_io.specs.Causes.{HasCause, HasCauseOf};
 ghost use Rattle.lx_spec.specs.ValidEdit.{ValidCommand};
-ghost use Rattle.lx_spec.specs.Desk.{is_edit};
+ghost use Rattle.lx_spec.specs.WantedMemory.{may_lack_memory};
 ghost use Rattle.lx_spec.specs.Desk.{Desk, opened};
 ghost use Rattle.lx_spec.specs.Output.{dimmer_value};
 ghost use Rattle.lx_spec.specs.TwoLists.{TwoDesks, opened_two, second_show, first_step, second_step, tick_step, is_tick, commands_second, frame_of_two};
 ghost use Rattle.lx_mixer.specs.Table.{IsTable};
 ghost use Rattle.lx_console.specs.Slots.{universe};
 ghost use Rattle.lx_console.specs.ConsoleMeaning.{StandsFor, Obeys};
-ghost use Rattle.lx_console.specs.WantedMemory.{may_lack_memory};
 ghost use Rattle.lx_lists.specs.TwoListsMeaning.{TwoStand, Steps, TakesStep, list_of, out_of_both};
 
 use crate::output::Output;
@@ -111,7 +110,7 @@ impl TwoLists {
         requires valid { ValidCommand command.now }
         requires taken { is_tick command.now ≡ false }
         ensures steps { (s : TwoDesks) → TwoStand s self.old
-            → TakesStep (is_edit command.now) (first_step s command.now) result self.new }
+            → TakesStep (may_lack_memory command.now) (first_step s command.now) result self.new }
         ensures unchanged { OnErr result (self.new ≡ self.old) }
         ensures other { self.new.second ≡ self.old.second }
         ensures memory { result ≡ Err Refusal.Memory → may_lack_memory command.now ≡ true }
@@ -126,7 +125,7 @@ impl TwoLists {
         requires valid { ValidCommand command.now }
         requires taken { is_tick command.now ≡ false }
         ensures steps { (s : TwoDesks) → TwoStand s self.old
-            → TakesStep (is_edit command.now) (first_step s command.now) result self.new }
+            → TakesStep (may_lack_memory command.now) (first_step s command.now) result self.new }
         ensures unchanged { OnErr result (self.new ≡ self.old) }
         ensures other { self.new.second ≡ self.old.second }
         ensures memory { result ≡ Err Refusal.Memory → may_lack_memory command.now ≡ true }
@@ -146,7 +145,7 @@ impl TwoLists {
         requires valid { ValidCommand command.now }
         requires taken { IsTrue (commands_second command.now) }
         ensures steps { (s : TwoDesks) → TwoStand s self.old
-            → TakesStep (is_edit command.now) (second_step s command.now) result self.new }
+            → TakesStep (may_lack_memory command.now) (second_step s command.now) result self.new }
         ensures unchanged { OnErr result (self.new ≡ self.old) }
         ensures other { self.new.first ≡ self.old.first }
         ensures memory { result ≡ Err Refusal.Memory → may_lack_memory command.now ≡ true }
@@ -161,7 +160,7 @@ impl TwoLists {
         requires valid { ValidCommand command.now }
         requires taken { IsTrue (commands_second command.now) }
         ensures steps { (s : TwoDesks) → TwoStand s self.old
-            → TakesStep (is_edit command.now) (second_step s command.now) result self.new }
+            → TakesStep (may_lack_memory command.now) (second_step s command.now) result self.new }
         ensures unchanged { OnErr result (self.new ≡ self.old) }
         ensures other { self.new.first ≡ self.old.first }
         ensures memory { result ≡ Err Refusal.Memory → may_lack_memory command.now ≡ true }

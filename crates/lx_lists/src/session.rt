@@ -29,7 +29,7 @@ use lx_session::{Answers, SessionFault, Tally, Turn, answer_lines_in};
 /// `ReadFault` comes only where the source failed, `InputTooLong` exactly where a wanted line has a byte past the limit
 /// of the input; the lines before it are then wholly answered. `WriteFault` and `Memory` come only where the sink
 /// answered them; what was written is then a prefix of the whole text. However it ends, the lists stand for the state
-/// after the lines that were done. Out of memory refuses only edits that nothing else refuses.
+/// after the lines that were done. Out of memory refuses only edits that may take memory and that nothing else refuses.
 pub fn two_session<S: Source, K: Sink>(
     desk: &mut TwoLists,
     lines: &mut Lines<S>,

@@ -24,7 +24,7 @@ use std::alloc::Global;
 /// refused show, the line or the cue list of a show, or the replies to a script. In those each command is done or refused as
 /// the desk does it. Each frame is evaluated over the whole show as it then is and the whole list of runs since the opening.
 /// By `undo` edits and records are also undone and redone, and by `two` it is so of two desks beside each other. `make` reads
-/// nothing. Running out of memory refuses nothing but edits and records.
+/// nothing. Running out of memory refuses nothing but records, and edits that may take memory.
 pub fn desk<S: Source, K: Sink>(
     alloc: Global,
     words: &[String],

@@ -24,7 +24,7 @@ use std::thread::Threads;
 /// at once. Beside it a worker for each of the universes 1 to U, in a thread of its own, writes to the outlet at the
 /// universe's place. Each newer version that it meets gets a line: `frame`, how many commands led to it, and the frame. No line
 /// is of two versions, and at the end the last one is of all accepted commands. As long as fewer than 2^62 commands were
-/// accepted, a line is refused with `Memory` only where it is an edit that the desk accepts.
+/// accepted, a line is refused with `Memory` only where it is an edit that may take memory and that the desk accepts.
 ///
 /// The fault of the session decides the status first, then a write that failed in an outlet, and then that memory was short. An outlet
 /// that fails is ended, and no other.
@@ -52,7 +52,7 @@ pub fn desk_live<
 
     // What was read and written, by the status: with Ok the whole output, and each outlet up to the version of all accepted commands.
     // After a fault each outlet has what was published of the commands of the lines that were answered. By it and by `order`
-    // Memory refuses only edits, as said above.
+    // Memory refuses only edits that may take some, as said above.
     ensures ended { OfRun (job_of (map string_bytes words.now)) (S.left input.old)
         (λ universes form bytes. HasLived any_memory result K.Sink universes form bytes (S.left input.new) (O.holds output.old)
         (O.holds output.new) outlets.old outlets.new) }

@@ -1,6 +1,6 @@
 -- A line that was attempted and replied to was answered.
 use Rattle.lx_session.proofs.Imports.{◌≡◌, ◌≤◌, IsOk, IfSome, ℕ, Bool, true, false, Option, Some, None, Result, Ok, Err, OnOk, List, [], ◌++◌}
-use Rattle.lx_session.proofs.Imports.{refl, sym, ap, ◌∙◌, subst, arith, append-nil, is_some, SinkFault, Puts, Command, Line, Refusal, Desk, step, is_edit}
+use Rattle.lx_session.proofs.Imports.{refl, sym, ap, ◌∙◌, subst, arith, append-nil, is_some, SinkFault, Puts, Command, Line, Refusal, Desk, step, may_lack_memory}
 use Rattle.lx_session.proofs.Imports.{Kept, Session, Counts, bad_reply, frame, frame_text, DeskState, Attempt, command_of, count_of, tried, after_attempts}
 use Rattle.lx_session.proofs.Imports.{after_meaning, IsAcceptedEdit, MayFailAt, StandsFor, Tally, LineState, next_of, unattempted, LineProgress}
 use Rattle.lx_session.proofs.Imports.{CommandHasFailed, resumed, reply_to, reply_for, counts_after, counts_in, counted as counted_in, ListenedAttempt, heard_of}
@@ -23,14 +23,14 @@ edit_of_line d d' (Some (lines.Command c)) same w =
     record {
       command = w.wanted;
       means = ap (λ v. Some (lines.Command v)) (sym command);
-      edit = w.edit;
+      takes_some = w.takes_some;
       accepted =
           subst (λ v. IsOk (step v w.wanted)) same w.accepted;
     }
 edit_of_line d d' (Some (lines.Ticks k)) same w =
     let is = w.is in
     let tick : w.wanted ≡ commands.Tick = cc in
-    let none : is_edit commands.Tick ≡ true = ap is_edit (sym tick) ∙ w.edit in cc
+    let none : may_lack_memory commands.Tick ≡ true = ap may_lack_memory (sym tick) ∙ w.takes_some in cc
 edit_of_line d d' (Some (lines.Frame u)) same w = let e = w.is in cc
 edit_of_line d d' (Some lines.Save) same w = let e = w.is in cc
 edit_of_line d d' (Some (lines.SheetOf n)) same w = let e = w.is in cc
@@ -44,7 +44,7 @@ one_attempt d (Some (lines.Command c)) w = omega arith
 one_attempt d (Some (lines.Ticks k)) w =
     let is = w.is in
     let tick : w.wanted ≡ commands.Tick = cc in
-    let none : is_edit commands.Tick ≡ true = ap is_edit (sym tick) ∙ w.edit in cc
+    let none : may_lack_memory commands.Tick ≡ true = ap may_lack_memory (sym tick) ∙ w.takes_some in cc
 one_attempt d (Some (lines.Frame u)) w = let e = w.is in cc
 one_attempt d (Some lines.Save) w = let e = w.is in cc
 one_attempt d (Some (lines.SheetOf n)) w = let e = w.is in cc

@@ -179,7 +179,7 @@ attempted_at all heard heard' s old turn c before_it after_it (Some refusal) tru
   | inr want ↦
       refused all heard heard' s old turn c before_it after_it refusal (Some 0) t next
       (fails_now c turn.left t.now next.some ∙ ap (λ r. record { state = t.now; refusal = Some r }) (sym want.memory))
-      (λ e every. record { wanted = c; is = refl; edit = want.edit; accepted = want.accepted }) (λ e. want.memory) a.0 joins
+      (λ e every. record { wanted = c; is = refl; takes_some = want.takes_some; accepted = want.accepted }) (λ e. want.memory) a.0 joins
 ]
 attempted_at all heard heard' s old turn c before_it after_it (Some refusal) false t next every a joins =
     refused all heard heard' s old turn c before_it after_it refusal (Some 0) t next

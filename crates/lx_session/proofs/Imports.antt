@@ -32,7 +32,7 @@ pub use Rattle.lx_session.specs.SessionOutcome.{KeepsLimit}
 pub use Rattle.lx_session.specs.declared.fault.SessionFault.{SessionFault}
 pub use Rattle.lx_session.specs.declared.tally.Tally.{Tally}
 pub use Rattle.lx_spec.specs.CutInput.{first_lines}
-pub use Rattle.lx_spec.specs.Desk.{after_command, Desk, is_edit, opened, replay, step}
+pub use Rattle.lx_spec.specs.Desk.{after_command, Desk, opened, replay, step}
 pub use Rattle.lx_spec.specs.DeskSession.{after_attempts, after_meaning, and_then, answered, Attempt, attempt, attempts_for, attempts_of, begun, command_of}
 pub use Rattle.lx_spec.specs.DeskSession.{count_of, desk_answering, DeskState, IsAcceptedEdit, MayFailAt, tried, with_reply}
 pub use Rattle.lx_spec.specs.Kept.{Kept, kept}
@@ -44,6 +44,7 @@ pub use Rattle.lx_spec.specs.Show.{Cue, InRange, Show}
 pub use Rattle.lx_spec.specs.ShowText.{show_text}
 pub use Rattle.lx_spec.specs.Text.{lines_of, tokens, without_cr}
 pub use Rattle.lx_spec.specs.TrackedLevel.{cue_of}
+pub use Rattle.lx_spec.specs.WantedMemory.{may_lack_memory}
 pub use Rattle.lx_spec.specs.declared.Command.{Command}
 pub use Rattle.lx_spec.specs.declared.Line.{Line}
 pub use Rattle.lx_spec.specs.declared.Refusal.{Refusal}

@@ -5,7 +5,8 @@ use Rattle.lx_spec.specs.declared.Command.{Command}
 use Rattle.lx_spec.specs.declared.Command.TheVariants as commands
 use Rattle.lx_spec.specs.declared.Refusal.{Refusal}
 use Rattle.lx_spec.specs.declared.Refusal.TheVariants.{Memory}
-use Rattle.lx_spec.specs.Desk.{Desk, step, is_edit}
+use Rattle.lx_spec.specs.Desk.{Desk, step}
+use Rattle.lx_spec.specs.WantedMemory.{may_lack_memory}
 use Rattle.lx_spec.specs.Kept.{Kept}
 use Rattle.lx_spec.specs.DeskSession.{DeskState, Attempt, attempts_for, command_of}
 use Rattle.lx_console.specs.ConsoleMeaning.{StandsFor}
@@ -18,16 +19,16 @@ abbrev pub resumed : Option ℕ → Option Command → ℕ → Option Refusal �
 resumed failed command left refusal t =
     option_map_or (λ r. record { state = t; refusal = Some r }) refusal (attempts_for failed command left t)
 
--- an attempt at the command failed at this desk: the command is an edit that the desk accepts
+-- an attempt at the command failed at this desk: the command is an edit that may take memory, and that the desk accepts
 pub record CommandHasFailed (d : Desk) (command : Option Command) : Type 0 where
   pub wanted : Command
   pub is : command ≡ Some wanted
-  pub edit : is_edit wanted ≡ true
+  pub takes_some : may_lack_memory wanted ≡ true
   pub accepted : IsOk (step d wanted)
 
 -- From a state on, the attempts of a line have come to this one, for which the console stands, and the commands that were accepted were
 -- heard of. Where one of those that are left will fail, `at` tells which one of all it is; where none will, the one that did, if one did.
--- Where all are admitted, none fails but at an edit that the desk accepts. One that fails is refused with Memory.
+-- Where all are admitted, none fails but at an edit that may take memory and that the desk accepts. One that fails is refused with Memory.
 pub record LineProgress (all : Bool) (heard : List Command → Type 0) (s : DeskState) (old turn : LineState) (console : Kept) : Type 0 where
   pub now : DeskState
   pub at : Option ℕ → Option ℕ

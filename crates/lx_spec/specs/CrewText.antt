@@ -46,7 +46,7 @@ named s entry = with_text s (op_text entry)
 abbrev pub after_entry : Option ℕ → Session DeskState → CrewEntry → Session DeskState
 after_entry failed s entry = after_line failed (named s entry) entry.line
 
--- a desk answers the entries of a crew; an attempt may fail at an edit that it accepts
+-- a desk answers the entries of a crew; an attempt may fail at an edit that may take memory and that it accepts
 abbrev pub crew_answering : Answering CrewEntry
 crew_answering = record { State = DeskState; answer = after_entry; MayFail = λ s entry. IsAcceptedEdit s.desk (line_of entry.line) }
 
@@ -56,6 +56,6 @@ crew_session d entries failures = after_each crew_answering failures (begin_at (
 abbrev pub crew_text : Desk → List CrewEntry → List (Option ℕ) → List ℕ
 crew_text d entries failures = (crew_session d entries failures).text
 
--- in the session of a crew attempts failed only at edits that the desk accepts
+-- in the session of a crew attempts failed only at edits that may take memory and that the desk accepts
 abbrev pub CrewAllows : Desk → List CrewEntry → List (Option ℕ) → Type 0
 CrewAllows d entries failures = AreAllowed crew_answering failures (begin_at (begun d)) entries

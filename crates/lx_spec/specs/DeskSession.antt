@@ -9,7 +9,8 @@ use Rattle.lx_spec.specs.declared.Line.TheVariants as lines
 use Rattle.lx_spec.specs.declared.Refusal.{Refusal}
 use Rattle.lx_spec.specs.declared.Refusal.TheVariants.{AbsentCue, Memory}
 use Rattle.lx_spec.specs.TrackedLevel.{cue_of}
-use Rattle.lx_spec.specs.Desk.{Desk, step, is_edit}
+use Rattle.lx_spec.specs.Desk.{Desk, step}
+use Rattle.lx_spec.specs.WantedMemory.{may_lack_memory}
 use Rattle.lx_spec.specs.Output.{frame}
 use Rattle.lx_spec.specs.ShowText.{show_text}
 use Rattle.lx_spec.specs.Script.{line_of}
@@ -105,15 +106,15 @@ after_meaning failed s meaning = let t = tried failed s.state meaning in after_a
 abbrev pub after_line : Option ℕ → Session DeskState → List ℕ → Session DeskState
 after_line failed s line = after_meaning failed s (line_of line)
 
--- the line is an edit that the desk accepts
+-- the line is an edit that may take memory, and that the desk accepts
 pub record IsAcceptedEdit (d : Desk) (meaning : Option Line) : Type 0 where
   pub command : Command
   pub means : meaning ≡ Some (lines.Command command)
-  pub edit : is_edit command ≡ true
+  pub takes_some : may_lack_memory command ≡ true
   pub accepted : IsOk (step d command)
 
--- An attempt may fail at an edit that the desk accepts; and, where not all commands are admitted, since there is no memory to hand one on,
--- at any line.
+-- An attempt may fail at an edit that may take memory and that the desk accepts; and, where not all commands are admitted, since there is no
+-- memory to hand one on, at any line.
 abbrev pub MayFailAt : Bool → Desk → Option Line → Type 0
 MayFailAt true d meaning = IsAcceptedEdit d meaning
 MayFailAt false d meaning = Unit {0}

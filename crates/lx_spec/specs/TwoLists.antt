@@ -127,7 +127,7 @@ abbrev pub two_answer : Option ℕ → Session TwoDesks → List ℕ → Session
 two_answer failed s line =
     if is_for_second line then second_answer failed s (second_meaning line) else first_answer failed s (line_of line)
 
--- an attempt may fail at an edit that its list accepts, the second or the first
+-- an attempt may fail at an edit that may take memory and that its list accepts, the second or the first
 abbrev pub TwoMayFail : TwoDesks → List ℕ → Bool → Type 0
 TwoMayFail s line true = IsAcceptedEdit s.second (second_meaning line)
 TwoMayFail s line false = IsAcceptedEdit s.first (line_of line)

@@ -73,7 +73,7 @@ plain failed s meaning = let t = tried failed (begun s.state.desk) meaning in af
 abbrev pub undo_answer : Option ℕ → Session UndoState → List ℕ → Session UndoState
 undo_answer failed s line = option_map_or (asked failed s) (undo_line_of line) (plain failed s (line_of line))
 
--- an attempt may fail at edits and records that are accepted otherwise
+-- an attempt may fail at records, and at edits that may take memory, that are accepted otherwise
 abbrev pub MayFailAsked : UndoState → UndoLine → Type 0
 MayFailAsked s Undo = ⊥
 MayFailAsked s Redo = ⊥

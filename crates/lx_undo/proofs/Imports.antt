@@ -23,6 +23,7 @@ pub use Rattle.lx_spec.specs.Undo.{back_to, forth_to, last_of, record_step, redo
 pub use Rattle.lx_spec.specs.UndoSession.{after_asking, after_plain, asked, attempted, MayFailAsked, plain, undo_answer, undo_answering, undo_line_of}
 pub use Rattle.lx_spec.specs.UndoSession.{undo_meaning, UndoMayFail}
 pub use Rattle.lx_spec.specs.ValidEdit.{ValidLine}
+pub use Rattle.lx_spec.specs.WantedMemory.{may_lack_memory}
 pub use Rattle.lx_spec.specs.declared.Command.{Command}
 pub use Rattle.lx_spec.specs.declared.Edit.{Edit}
 pub use Rattle.lx_spec.specs.declared.Line.{Line}

@@ -4,7 +4,7 @@ use Rattle.lx_undo.proofs.Imports.{[], ◌∷◌, ◌++◌, length, refl, sym, a
 use Rattle.lx_undo.proofs.Imports.{OnErr, IsOk, if◌then◌else◌, list_any, result_err, result_unwrap_or, cases_Bool, Command, Line, Refusal}
 use Rattle.lx_undo.proofs.Imports.{◌>>=◌, Desk, step, after_command, is_edit, begun, command_of, count_of, UndoState, replaced, undo_step, StandsFor}
 use Rattle.lx_undo.proofs.Imports.{Refuses, after_commands, LineState, next_of, unattempted, LineProgress, UndoKept, UndoStands, TakesUndoStep, UndoWantsMemory}
-use Rattle.lx_undo.proofs.Imports.{reached, HasReached}
+use Rattle.lx_undo.proofs.Imports.{may_lack_memory, reached, HasReached}
 use Rattle.std.proofs.Common.{IsOkAnd}
 use Rattle.std.proofs.lemmas.List.Sums.{fold-append}
 use Rattle.lx_spec.specs.declared.Command.TheVariants as commands
@@ -86,12 +86,12 @@ accepts_by next (Ok d) ok = ok
 accepts_by next (Err own) ok = ok
 
 refuses : (s : UndoState) (c : Command) (refusal : Refusal)
-    → (undo_step s c ≡ Err refusal) ⊎ UndoWantsMemory (is_edit c) (undo_step s c) refusal → Refuses s.desk c refusal
+    → (undo_step s c ≡ Err refusal) ⊎ UndoWantsMemory (may_lack_memory c) (undo_step s c) refusal → Refuses s.desk c refusal
 refuses s c refusal refused = elim refused [
   | inl own ↦ inl (refused_by (then_at s c) (step s.desk c) refusal own)
   | inr want ↦
       let takes : IsOk (step s.desk c) = accepts_by (then_at s c) (step s.desk c) want.accepted in
-      inr (record { edit = want.takes_some; memory = want.memory; accepted = takes })
+      inr (record { takes_some = want.takes_some; memory = want.memory; accepted = takes })
 ]
 
 -- as many commands as there were attempts
@@ -135,7 +135,7 @@ one_accepted s old turn c before now start some steps t =
 -- and one that was refused
 one_refused : (s : UndoState) (old turn : LineState) (c : Command) (before now : UndoKept) (refusal : Refusal)
     → next_of turn ≡ Some c → now ≡ before
-    → ((x : UndoState) → UndoStands x before → (undo_step x c ≡ Err refusal) ⊎ UndoWantsMemory (is_edit c) (undo_step x c) refusal)
+    → ((x : UndoState) → UndoStands x before → (undo_step x c ≡ Err refusal) ⊎ UndoWantsMemory (may_lack_memory c) (undo_step x c) refusal)
     → LineProgress true (HasReached s before (old.left - turn.left)) (begun s.desk) old turn before.console
     → LineProgress true (HasReached s now (old.left - (turn.left - 1))) (begun s.desk) old
     (record { meaning = turn.meaning; left = turn.left - 1; refusal = Some refusal }) now.console
@@ -156,7 +156,7 @@ one_refused s old turn c before now refusal some same steps t =
 
 one_by : (s : UndoState) (old turn : LineState) (c : Command) (before now : UndoKept) (answer : Result (Unit {0}) Refusal)
     → old ≡ unattempted old.meaning → next_of turn ≡ Some c
-    → ((x : UndoState) → UndoStands x before → TakesUndoStep (is_edit c) (undo_step x c) answer now) → OnErr answer (now ≡ before)
+    → ((x : UndoState) → UndoStands x before → TakesUndoStep (may_lack_memory c) (undo_step x c) answer now) → OnErr answer (now ≡ before)
     → LineProgress true (HasReached s before (old.left - turn.left)) (begun s.desk) old turn before.console
     → LineProgress true (HasReached s now (old.left - (turn.left - 1))) (begun s.desk) old
     (record { meaning = turn.meaning; left = turn.left - 1; refusal = result_err answer }) now.console
@@ -168,7 +168,7 @@ one_by s old turn c before now (Err refusal) start some steps same t =
 -- One attempt more.
 pub one_more : (s : UndoState) (old turn turn' : LineState) (c : Command) (before now : UndoKept)
     (answer : Result (Unit {0}) Refusal) → old ≡ unattempted old.meaning → next_of turn ≡ Some c
-    → ((x : UndoState) → UndoStands x before → TakesUndoStep (is_edit c) (undo_step x c) answer now) → OnErr answer (now ≡ before)
+    → ((x : UndoState) → UndoStands x before → TakesUndoStep (may_lack_memory c) (undo_step x c) answer now) → OnErr answer (now ≡ before)
     → turn' ≡ record turn { left = turn.left - 1; refusal = result_err answer }
     → LineProgress true (HasReached s before (old.left - turn.left)) (begun s.desk) old turn before.console
     → LineProgress true (HasReached s now (old.left - turn'.left)) (begun s.desk) old turn' now.console

@@ -3,11 +3,9 @@
 ghost use Rattle.std.specs.Prelude.{◌≡◌, ◌≢◌, true, Err, IfOk, OnErr};
 ghost use Rattle.lx_io.specs.Causes.{HasCause, HasCauseOf};
 ghost use Rattle.lx_spec.specs.ValidEdit.{ValidCommand, ValidEdit};
-ghost use Rattle.lx_spec.specs.Desk.{is_edit};
+ghost use Rattle.lx_spec.specs.WantedMemory.{takes_memory, may_lack_memory};
 ghost use Rattle.lx_spec.specs.Undo.{UndoState, opened_with, with_show, replaced, undo_step, record_step, undo, redo};
 ghost use Rattle.lx_edit.specs.PlanMeaning.{IsReady, planned};
-ghost use Rattle.lx_edit.specs.WantedMemory.{takes_memory};
-ghost use Rattle.lx_console.specs.WantedMemory.{may_lack_memory};
 ghost use Rattle.lx_undo.specs.UndoDeskMeaning.{UndoStands, UndoSteps, TakesUndoStep};
 
 use crate::history::UndoPlans;
@@ -76,7 +74,7 @@ impl UndoDesk {
     pub fn command(&mut self, command: &Command) -> Result<(), Refusal>
         requires { ValidCommand command.now }
         ensures steps { (s : UndoState) → UndoStands s self.old
-            → TakesUndoStep (is_edit command.now) (undo_step s command.now) result self.new }
+            → TakesUndoStep (may_lack_memory command.now) (undo_step s command.now) result self.new }
         ensures unchanged { OnErr result (self.new ≡ self.old) }
         ensures memory { result ≡ Err Refusal.Memory → may_lack_memory command.now ≡ true }
     {
@@ -89,7 +87,7 @@ impl UndoDesk {
     pub fn command_in<H: Heap>(&mut self, heap: &mut H, command: &Command) -> Result<(), Refusal>
         requires { ValidCommand command.now }
         ensures steps { (s : UndoState) → UndoStands s self.old
-            → TakesUndoStep (is_edit command.now) (undo_step s command.now) result self.new }
+            → TakesUndoStep (may_lack_memory command.now) (undo_step s command.now) result self.new }
         ensures unchanged { OnErr result (self.new ≡ self.old) }
         ensures memory { result ≡ Err Refusal.Memory → may_lack_memory command.now ≡ true }
         ensures cause { HasCauseOf Refusal.Memory (H.refusals heap.old) (H.refusals heap.new) result }
@@ -103,7 +101,8 @@ impl UndoDesk {
     /// An edit, planned whole and applied whole.
     fn edit<H: Heap>(&mut self, heap: &mut H, edit: &Edit) -> Result<(), Refusal>
         requires { ValidEdit edit.now }
-        ensures steps { (s : UndoState) → UndoStands s self.old → TakesUndoStep true (undo_step s (Command.Edit edit.now)) result self.new }
+        ensures steps { (s : UndoState) → UndoStands s self.old
+            → TakesUndoStep (takes_memory edit.now) (undo_step s (Command.Edit edit.now)) result self.new }
         ensures unchanged { OnErr result (self.new ≡ self.old) }
         ensures memory { result ≡ Err Refusal.Memory → takes_memory edit.now ≡ true }
         ensures cause { HasCauseOf Refusal.Memory (H.refusals heap.old) (H.refusals heap.new) result }

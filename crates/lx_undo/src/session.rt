@@ -36,7 +36,7 @@ use lx_spec::{Line, Refusal, UndoLine};
 /// `ReadFault` comes only where the source failed, `InputTooLong` exactly where a wanted line has a byte past the limit
 /// of the input; the lines before it are then wholly answered. `WriteFault` and `Memory` come only where the sink
 /// answered them; what was written is then a prefix of the whole text. However it ends, the desk stands for the state
-/// after the lines that were done. Out of memory refuses only edits and records that nothing else refuses.
+/// after the lines that were done. Out of memory refuses only records, and edits that may take memory, that nothing else refuses.
 pub fn undo_session<S: Source, K: Sink>(
     desk: &mut UndoDesk,
     lines: &mut Lines<S>,

@@ -54,9 +54,9 @@ pub struct LiveOutcome {
 /// that are published by the end, and the last one of an outlet that had no fault is that of all of them. Each line is handed on at
 /// once, and all replies are where the session ended Ok.
 ///
-/// As long as fewer than 2^62 commands were accepted each command is admitted, so that `Memory` refuses only an edit that the desk
-/// accepts. A fault of an outlet ends that outlet alone: it isn't written again. `AllocError` comes only before the first line, and then
-/// nothing was read or written.
+/// As long as fewer than 2^62 commands were accepted each command is admitted, so that `Memory` refuses only an edit that may take
+/// memory and that the desk accepts. A fault of an outlet ends that outlet alone: it isn't written again. `AllocError` comes only before
+/// the first line, and then nothing was read or written.
 pub fn play<
     R: Threads + Wait + Sync,
     S: Source + Send,

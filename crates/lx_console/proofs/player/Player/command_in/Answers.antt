@@ -5,7 +5,8 @@ use Rattle.lx_console.proofs.player.Player.command_in.Goals as goal
 pub returns-in-Edit-clause-answers : goal.returns-in-Edit-clause-answers
 returns-in-Edit-clause-answers g c = λ d stands.
     subst (λ (command : Command). Answers d command c.edit.result c.edit.new.self) (sym c.in-Edit.is)
-    (answers_edit d _ c.edit.result c.args.self.now c.edit.new.self stands c.edit.ensures.ok c.edit.ensures.err)
+    (answers_edit d _ c.edit.result c.args.self.now c.edit.new.self stands c.edit.ensures.ok c.edit.ensures.err
+    c.edit.ensures.memory)
 
 pub returns-in-Key-clause-answers : goal.returns-in-Key-clause-answers
 returns-in-Key-clause-answers g c = λ d stands. subst (λ (command : Command). Answers d command c.press.result c.press.new.self)
