@@ -6,7 +6,7 @@ use Rattle.lx_sheet.proofs.Imports.{length-drop, length-append, length-map, leng
 use Rattle.lx_sheet.proofs.Imports.{slice_get_within, Cue, Show, IsStrictlySorted, entry_at, entries_below, entries_above, taken_out, new_cue, with_cue}
 use Rattle.lx_sheet.proofs.Imports.{without_cue, cue_of, eq_true, eq_other, none_differs, below_and_above, found_number, split_there, StandsAt, GoesAt, Place}
 use Rattle.lx_sheet.proofs.Imports.{Marks, AreMarked, own_rows, row_at_place, cell, IsMarkedFor, has_mark, level_after, tracked_on, IsRight, RowsFollow}
-use Rattle.lx_sheet.proofs.Imports.{FillsRows, IsPassed, IsLeft, RowsStandFor, cue_numbers}
+use Rattle.lx_sheet.proofs.Imports.{FillsRows, IsPassed, IsLeft, RowsStandFor, cue_numbers, AllByRecursion, ValidCue}
 use Rattle.lx_sheet.proofs.EditedShows.{below-map, above-map}
 use Rattle.lx_sheet.proofs.Found.{same_numbers}
 use Rattle.lx_sheet.proofs.LevelsAfter.{level_after-take}
@@ -282,6 +282,13 @@ pub told_as : (P : ℕ → List Place → List Cue → List ℕ → Type 0) (n m
 told_as P n m lent order given cues was levels width rows same before is =
     subst (λ k. P k order cues levels) width (subst (λ (xs : List Place). P n xs cues levels) rows
     (subst (λ (xs : List Cue). P n lent xs levels) same (subst (λ (xs : List ℕ). P n lent given xs) before is)))
+
+-- the cues as a call is given them
+pub valid_told : (channels wide : ℕ) (cues told : List Cue) → AllByRecursion (ValidCue channels) cues → told ≡ cues → wide ≡ channels
+    → AllByRecursion (ValidCue wide) told
+valid_told channels wide cues told each is same =
+    subst (λ (k : ℕ). AllByRecursion (ValidCue k) told) (sym same)
+    (subst (λ (xs : List Cue). AllByRecursion (ValidCue channels) xs) (sym is) each)
 
 -- Once the rows from the place on are filled in, each row is right.
 pub all_right : (channels : ℕ) (old new : List Place) (before cues : List Cue) (levels filled : List ℕ) (at a b : ℕ)

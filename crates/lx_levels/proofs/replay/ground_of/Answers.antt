@@ -64,3 +64,106 @@ loop-left-preserved c =
             begun = omega (arith, w.since-is, c.loop-left.invariant.begun);
           }
     ]
+
+pub level_there-target-requires-clause-rows : goal.level_there-target-requires-clause-rows
+level_there-target-requires-clause-rows c = c.requires.rows
+
+pub level_there-target-requires-clause-few : goal.level_there-target-requires-clause-few
+level_there-target-requires-clause-few c = c.requires.few
+
+pub level_there-target-requires-clause-hints : goal.level_there-target-requires-clause-hints
+level_there-target-requires-clause-hints c = c.requires.hints
+
+pub overflow_sub-run : goal.overflow_sub-run
+overflow_sub-run c = omega (arith, c.loop-left-test.true)
+
+pub bounds-live-left : goal.bounds-live-left
+bounds-live-left c = omega (arith, c.loop-left-test.true, c.loop-left.invariant.within)
+
+pub slice_bounds-level_there-count : goal.slice_bounds-level_there-count
+slice_bounds-level_there-count c = omega (arith, c.loop-left-test.true)
+
+pub level_there-looks-requires-clause-rows : goal.level_there-looks-requires-clause-rows
+level_there-looks-requires-clause-rows c = c.requires.rows
+
+pub level_there-looks-requires-clause-hints : goal.level_there-looks-requires-clause-hints
+level_there-looks-requires-clause-hints c = omega (arith, c.loop-left.auto.hints, c.level_there-target.auto.hints, c.requires.hints)
+
+pub overflow_sub-left : goal.overflow_sub-left
+overflow_sub-left c = omega (arith, c.loop-left-test.true)
+
+pub offset_bounds-hints-left : goal.offset_bounds-hints-left
+offset_bounds-hints-left c = omega (arith, c.loop-left.invariant.within, c.requires.few)
+
+pub bounds-hints-left : goal.bounds-hints-left
+bounds-hints-left c =
+    omega (
+      arith,
+      c.loop-left-test.true,
+      c.loop-left.invariant.within,
+      c.requires.few,
+      c.level_there-looks.auto.hints,
+      c.loop-left.auto.hints,
+      c.level_there-target.auto.hints,
+      c.requires.hints,
+    )
+
+pub acts-requires : goal.acts-requires
+acts-requires c =
+    let i : ℕ = c.loop-left.left - 1 in
+    let place : c.loop-left.left ≡ i + 1 = omega (arith, c.loop-left-test.true) in
+    let lt : i < length c.args.live.now = omega (arith, c.loop-left-test.true, c.loop-left.invariant.within) in
+    target_of c.args.show.now c.args.base c.args.live.now c.args.c c.args.from i c.index-live-left.result lt c.index-live-left.is
+    c.loop-left.target
+    (subst (λ n. c.loop-left.target ≡ tracked c.args.show.now (last_cue c.args.base (reverse (take n c.args.live.now))) c.args.c) place
+    c.loop-left.invariant.at)
+
+pub times_for-entry-requires : goal.times_for-entry-requires
+times_for-entry-requires c =
+    let lt : c.loop-left.left - 1 < length c.args.live.now = omega (arith, c.loop-left-test.true, c.loop-left.invariant.within) in
+    let valid = subst (ValidRun c.args.from) (sym c.index-live-left.is) (c.requires.runs (c.loop-left.left - 1) c.index-live-left.result lt) in
+    record { run = record { started = omega (arith, valid.started, c.requires.end); entry = valid.entry; times = valid.times } }
+
+pub is_over-requires-clause-start : goal.is_over-requires-clause-start
+is_over-requires-clause-start c =
+    let lt : c.loop-left.left - 1 < length c.args.live.now = omega (arith, c.loop-left-test.true, c.loop-left.invariant.within) in
+    let valid = subst (ValidRun c.args.from) (sym c.index-live-left.is) (c.requires.runs (c.loop-left.left - 1) c.index-live-left.result lt) in
+    omega (arith, ap (λ (r : Run). r.start) c.run.view_is, valid.started, c.requires.end)
+
+pub is_over-requires-clause-times : goal.is_over-requires-clause-times
+is_over-requires-clause-times c = c.times_for-entry.ensures.times
+
+pub returns-then-is_over-clause-within : goal.returns-then-is_over-clause-within
+returns-then-is_over-clause-within c = c.loop-left.invariant.within
+
+pub returns-then-is_over-clause-valid : goal.returns-then-is_over-clause-valid
+returns-then-is_over-clause-valid c = c.loop-left.invariant.valid
+
+pub overflow_sub-left-then-acts : goal.overflow_sub-left-then-acts
+overflow_sub-left-then-acts c = omega (arith, c.loop-left-test.true)
+
+pub offset_bounds-acts_of-left : goal.offset_bounds-acts_of-left
+offset_bounds-acts_of-left c = omega (arith, c.loop-left.invariant.within, c.requires.few)
+
+pub bounds-acts_of-left : goal.bounds-acts_of-left
+bounds-acts_of-left c =
+    omega (arith, c.loop-left-test.true, c.loop-left.invariant.within, c.requires.few, c.requires.acts, c.loop-left.auto.acts_of)
+
+pub overflow_sub-left-else-acts : goal.overflow_sub-left-else-acts
+overflow_sub-left-else-acts c = omega (arith, c.loop-left-test.true)
+
+pub offset_bounds-acts_of-left-else-acts : goal.offset_bounds-acts_of-left-else-acts
+offset_bounds-acts_of-left-else-acts c = omega (arith, c.loop-left.invariant.within, c.requires.few)
+
+pub bounds-acts_of-left-else-acts : goal.bounds-acts_of-left-else-acts
+bounds-acts_of-left-else-acts c =
+    omega (arith, c.loop-left-test.true, c.loop-left.invariant.within, c.requires.few, c.requires.acts, c.loop-left.auto.acts_of)
+
+pub overflow_sub-left-in-loop-left : goal.overflow_sub-left-in-loop-left
+overflow_sub-left-in-loop-left c = omega (arith, c.loop-left-test.true)
+
+pub loop-left-smaller : goal.loop-left-smaller
+loop-left-smaller c = omega (arith, c.loop-left-test.true)
+
+pub returns-clause-valid : goal.returns-clause-valid
+returns-clause-valid c = λ i from. c.loop-left.invariant.valid i (omega (arith, c.loop-left-test.false))

@@ -5,6 +5,7 @@ use Rattle.lx_sheet.proofs.Cells.{cell-set_here, cell-set_other}
 use Rattle.lx_sheet.proofs.BlockReach.{covered_at}
 use Rattle.lx_sheet.proofs.LevelsAfter.{level_after-take}
 use Rattle.lx_sheet.proofs.RowPool.{rows_differ}
+use Rattle.lx_sheet.proofs.Imports.{mul-le-mul_right, CUES}
 use Rattle.lx_sheet.proofs.block.fill_column.Goals as goal
 use Rattle.lx_sheet.proofs.block.fill_column.Goals.{then-decides_at+else-place-sure, else-decides_at}
 
@@ -76,3 +77,85 @@ loop-place-preserved c =
         | inr apart ↦ others k apart (omega arith) ∙ c.loop-place.invariant.rows start k from (omega arith)
       ];
     }
+
+-- a row of the block begins below its end
+within_block : (row channels : ℕ) → row < CUES → row * (channels + 64) ≤ CUES * (channels + 64)
+within_block row channels within = mul-le-mul_right {m = row} {n = CUES} (channels + 64) (omega (arith, within))
+
+pub overflow_cast-at : goal.overflow_cast-at
+overflow_cast-at c = omega (arith, c.get.ensures.most)
+
+pub overflow_sub-at : goal.overflow_sub-at
+overflow_sub-at c = c.get.ensures.least
+
+pub overflow_add-width : goal.overflow_add-width
+overflow_add-width c = omega (arith, c.requires.few)
+
+pub level_before-level-requires-clause-few : goal.level_before-level-requires-clause-few
+level_before-level-requires-clause-few c = c.requires.few
+
+pub level_before-level-requires-clause-room : goal.level_before-level-requires-clause-room
+level_before-level-requires-clause-room c = c.requires.room
+
+pub level_before-level-requires-clause-cues : goal.level_before-level-requires-clause-cues
+level_before-level-requires-clause-cues c = omega (arith, c.requires.from, c.requires.order)
+
+pub level_before-level-requires-clause-rows : goal.level_before-level-requires-clause-rows
+level_before-level-requires-clause-rows c = c.requires.rows
+
+pub level_before-level-requires-clause-within : goal.level_before-level-requires-clause-within
+level_before-level-requires-clause-within c = omega (arith, c.get.ensures.value, c.get.ensures.least, c.requires.within)
+
+pub own_row-row-requires-clause-place : goal.own_row-row-requires-clause-place
+own_row-row-requires-clause-place c = omega (arith, c.loop-place-test.true, c.requires.to, c.requires.order)
+
+pub own_row-row-requires-clause-rows : goal.own_row-row-requires-clause-rows
+own_row-row-requires-clause-rows c = c.requires.rows
+
+pub bounds-cues-place : goal.bounds-cues-place
+bounds-cues-place c = omega (arith, c.loop-place-test.true, c.requires.to)
+
+pub decides_at-requires-clause-row : goal.decides_at-requires-clause-row
+decides_at-requires-clause-row c = c.own_row-row.ensures.within
+
+pub returns-then-place-sure-clause-others : goal.returns-then-place-sure-clause-others
+returns-then-place-sure-clause-others c = c.loop-place.invariant.others
+
+pub returns-then-place-sure-clause-front : goal.returns-then-place-sure-clause-front
+returns-then-place-sure-clause-front c = c.loop-place.invariant.front
+
+pub returns-then-place-sure-clause-back : goal.returns-then-place-sure-clause-back
+returns-then-place-sure-clause-back c = c.loop-place.invariant.back
+
+pub returns-then-place-sure-clause-rows : goal.returns-then-place-sure-clause-rows
+returns-then-place-sure-clause-rows c = c.loop-place.invariant.rows
+
+pub bounds-cues-place-then-decides_at : goal.bounds-cues-place-then-decides_at
+bounds-cues-place-then-decides_at c = omega (arith, c.loop-place-test.true, c.requires.to)
+
+pub overflow_mul-levels : goal.overflow_mul-levels
+overflow_mul-levels c = omega (arith, within_block c.own_row-row.result c.args.channels c.own_row-row.ensures.within, c.requires.few)
+
+pub overflow_add-levels : goal.overflow_add-levels
+overflow_add-levels c =
+    omega (arith, within_block c.own_row-row.result c.args.channels c.own_row-row.ensures.within, c.requires.few, c.get.ensures.most)
+
+pub bounds-levels-row : goal.bounds-levels-row
+bounds-levels-row c =
+    let there : c.loop-place.place < length c.args.order.now = omega (arith, c.loop-place-test.true, c.requires.to, c.requires.order) in
+    let end : (c.own_row-row.result + 1) * width c.args.channels ≤ length c.args.levels.now =
+    subst (λ r. (r + 1) * width c.args.channels ≤ length c.args.levels.now) (sym c.own_row-row.ensures.row)
+    (covered_at c.args.channels c.args.levels.now c.args.order.now c.loop-place.place c.requires.room there) in
+    omega (arith, end, c.loop-place.auto.levels, c.get.ensures.value, c.get.ensures.least, c.requires.within)
+
+pub returns-clause-others : goal.returns-clause-others
+returns-clause-others c = c.loop-place.invariant.others
+
+pub returns-clause-front : goal.returns-clause-front
+returns-clause-front c = c.loop-place.invariant.front
+
+pub returns-clause-back : goal.returns-clause-back
+returns-clause-back c = c.loop-place.invariant.past
+
+pub returns-clause-rows : goal.returns-clause-rows
+returns-clause-rows c = λ start k least less. c.loop-place.invariant.rows start k least (omega (arith, less, c.loop-place-test.false))

@@ -3,6 +3,8 @@ use Rattle.lx_sheet.proofs.Imports.{arith, cases_eq, Cue, level_in, Place, cell,
 use Rattle.lx_sheet.proofs.LevelsAfter.{level_after-take}
 use Rattle.lx_sheet.proofs.RightRows.{right_on}
 use Rattle.lx_sheet.proofs.RowPool.{rows_differ}
+use Rattle.lx_sheet.proofs.Imports.{◌*◌, ◌≤◌, refl, AllByRecursion, ValidCue, width}
+use Rattle.lx_sheet.proofs.BlockReach.{covered_at, covers_lent}
 use Rattle.lx_sheet.proofs.block.fill_inserted.Goals as goal
 
 pub returns-then-decides_none : goal.returns-then-decides_none
@@ -39,3 +41,52 @@ returns-then-decides_none c = λ passed.
             (omega arith))
       ];
     }
+
+pub recall-requires-clause-few : goal.recall-requires-clause-few
+recall-requires-clause-few c = c.requires.few
+
+pub recall-requires-clause-room : goal.recall-requires-clause-room
+recall-requires-clause-room c = c.requires.room
+
+pub recall-requires-clause-cues : goal.recall-requires-clause-cues
+recall-requires-clause-cues c = omega (arith, c.requires.at, c.requires.order)
+
+pub recall-requires-clause-rows : goal.recall-requires-clause-rows
+recall-requires-clause-rows c = c.requires.rows
+
+pub bounds-cues-at : goal.bounds-cues-at
+bounds-cues-at c = c.requires.at
+
+pub own_row-requires-clause-place : goal.own_row-requires-clause-place
+own_row-requires-clause-place c = omega (arith, c.requires.at, c.requires.order)
+
+pub own_row-requires-clause-rows : goal.own_row-requires-clause-rows
+own_row-requires-clause-rows c = c.requires.rows
+
+pub write_row-requires-clause-few : goal.write_row-requires-clause-few
+write_row-requires-clause-few c = omega (arith, c.requires.few, c.recall.auto.look)
+
+pub write_row-requires-clause-row : goal.write_row-requires-clause-row
+write_row-requires-clause-row c = c.own_row.ensures.within
+
+pub write_row-requires-clause-room : goal.write_row-requires-clause-room
+write_row-requires-clause-room c = let levels : List ℕ = c.args.levels.now in
+    subst (λ (m : ℕ). (c.own_row.result + 1) * width m ≤ length levels) (sym c.recall.auto.look)
+    (subst (λ r. (r + 1) * width (length c.args.look.now) ≤ length levels) (sym c.own_row.ensures.row)
+    (covered_at (length c.args.look.now) levels c.args.order.now c.args.at c.requires.room (omega (arith, c.requires.at, c.requires.order))))
+
+pub fill_rows-requires-clause-few : goal.fill_rows-requires-clause-few
+fill_rows-requires-clause-few c = omega (arith, c.requires.few, c.recall.auto.look)
+
+pub fill_rows-requires-clause-room : goal.fill_rows-requires-clause-room
+fill_rows-requires-clause-room c =
+    covers_lent (length c.args.look.now) _ c.args.levels.now _ c.args.order.now _ c.recall.auto.look refl refl c.requires.room
+
+pub fill_rows-requires-clause-order : goal.fill_rows-requires-clause-order
+fill_rows-requires-clause-order c = c.requires.order
+
+pub fill_rows-requires-clause-rows : goal.fill_rows-requires-clause-rows
+fill_rows-requires-clause-rows c = c.requires.rows
+
+pub fill_rows-requires-clause-valid : goal.fill_rows-requires-clause-valid
+fill_rows-requires-clause-valid c = subst (λ (m : ℕ). AllByRecursion (ValidCue m) c.args.cues.now) (sym c.recall.auto.look) c.requires.valid

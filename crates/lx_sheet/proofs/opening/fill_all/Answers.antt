@@ -74,3 +74,65 @@ loop-place-preserved c =
           (sym (slice_get-get_or cues place cue c.loop-place-test.true ∙ ap Some (sym c.index-cues-place.is)))
           (λ chan least most. c.write.ensures.here chan least (omega (arith, most, wide))));
     }
+
+pub bounds-cues-place : goal.bounds-cues-place
+bounds-cues-place c = c.loop-place-test.true
+
+pub track-requires : goal.track-requires
+track-requires c = subst (λ (k : ℕ). ValidCue k c.index-cues-place.result) (sym (c.loop-place.auto.look ∙ c.fill.auto.self))
+    (subst (ValidCue (length c.args.look.now)) (sym c.index-cues-place.is)
+    (All-from_recursion (ValidCue (length c.args.look.now)) c.args.cues.now c.requires.valid c.loop-place.place _ c.loop-place-test.true))
+
+pub overflow_add-place : goal.overflow_add-place
+overflow_add-place c = omega (arith, c.loop-place-test.true, c.requires.rows)
+
+pub reach-requires-clause-few : goal.reach-requires-clause-few
+reach-requires-clause-few c = omega (arith, c.requires.few, c.track.auto.look, c.loop-place.auto.look)
+
+pub reach-requires-clause-rows : goal.reach-requires-clause-rows
+reach-requires-clause-rows c = omega (arith, c.loop-place-test.true, c.requires.rows)
+
+pub reach-requires-clause-room : goal.reach-requires-clause-room
+reach-requires-clause-room c = omega (arith, c.requires.room, c.loop-place.invariant.room, c.track.auto.look, c.loop-place.auto.look)
+
+pub write_row-requires-clause-few : goal.write_row-requires-clause-few
+write_row-requires-clause-few c = omega (arith, c.requires.few, c.track.auto.look, c.loop-place.auto.look)
+
+pub write_row-requires-clause-row : goal.write_row-requires-clause-row
+write_row-requires-clause-row c = omega (arith, c.loop-place-test.true, c.requires.rows)
+
+pub write_row-requires-clause-room : goal.write_row-requires-clause-room
+write_row-requires-clause-room c = omega (arith, c.reach.ensures.length, ap length c.deref_mut.ensures.value)
+
+pub overflow_add-place-in-loop-place : goal.overflow_add-place-in-loop-place
+overflow_add-place-in-loop-place c = omega (arith, c.loop-place-test.true, c.requires.rows)
+
+pub reach-requires-in-loop-place-clause-rows : goal.reach-requires-in-loop-place-clause-rows
+reach-requires-in-loop-place-clause-rows c = omega (arith, c.loop-place-test.true, c.requires.rows)
+
+pub reach-requires-in-loop-place-clause-few : goal.reach-requires-in-loop-place-clause-few
+reach-requires-in-loop-place-clause-few c = omega (arith, c.loop-place.invariant.table.groups, c.requires.table.few)
+
+pub write-requires-clause-row : goal.write-requires-clause-row
+write-requires-clause-row c = omega (arith, c.loop-place-test.true, c.requires.rows)
+
+pub write-requires-clause-few : goal.write-requires-clause-few
+write-requires-clause-few c = omega (arith, c.reach-in-loop-place.ensures.table.groups, c.loop-place.invariant.table.groups, c.requires.table.few)
+
+pub write-requires-clause-reach : goal.write-requires-clause-reach
+write-requires-clause-reach c = c.reach-in-loop-place.ensures.reach c.loop-place.place (omega arith)
+
+pub returns-clause-levels : goal.returns-clause-levels
+returns-clause-levels c = λ k less. c.loop-place.invariant.levels k (omega (arith, less, c.loop-place-test.false))
+
+pub returns-clause-room : goal.returns-clause-room
+returns-clause-room c = c.loop-place.invariant.room
+
+pub returns-clause-table : goal.returns-clause-table
+returns-clause-table c = c.loop-place.invariant.table
+
+pub returns-clause-reach : goal.returns-clause-reach
+returns-clause-reach c = λ r less. c.loop-place.invariant.reach r (omega (arith, less, c.loop-place-test.false))
+
+pub returns-clause-marks : goal.returns-clause-marks
+returns-clause-marks c = λ k less. c.loop-place.invariant.marks k (omega (arith, less, c.loop-place-test.false))

@@ -2,6 +2,7 @@ use Rattle.lx_sheet.proofs.Imports.{◌≡◌, ◌+◌, ◌-◌, ◌/◌, ◌%�
 use Rattle.lx_sheet.proofs.Imports.{replicate, ◌==◌, bit_at, mul-le-mul_right, take_all, bit_of, group_of, word_place}
 use Rattle.lx_sheet.specs.Marks.{has_mark}
 use Rattle.lx_sheet.proofs.BlockReach.{grown}
+use Rattle.lx_sheet.proofs.Imports.{refl}
 use Rattle.lx_sheet.proofs.marks.Marks.reach.Goals as goal
 
 pub returns-in-Ok-clause-same : goal.returns-in-Ok-clause-same
@@ -25,3 +26,23 @@ returns-else-len-end-clause-reach c = λ row less.
       c.len.ensures,
       c.args.self.now.words.ok,
     )
+
+pub words_of-end-requires-clause-rows : goal.words_of-end-requires-clause-rows
+words_of-end-requires-clause-rows c = c.requires.rows
+
+pub words_of-end-requires-clause-groups : goal.words_of-end-requires-clause-groups
+words_of-end-requires-clause-groups c = c.requires.few
+
+pub returns-in-Ok-clause-reach : goal.returns-in-Ok-clause-reach
+returns-in-Ok-clause-reach c = λ row less.
+    let rows : ℕ = c.args.rows in
+    omega (
+      arith,
+      mul-le-mul_right {m = row / 64 + 1} {n = rows / 64 + min 1 (rows % 64)} c.args.self.now.groups (omega (arith, less)),
+      c.words_of-end.ensures,
+      c.in-Ok.ensures.len,
+      c.resize.new.self.ok,
+    )
+
+pub returns-else-len-end-clause-same : goal.returns-else-len-end-clause-same
+returns-else-len-end-clause-same c = λ row chan. refl

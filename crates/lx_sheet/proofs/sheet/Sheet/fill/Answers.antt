@@ -7,6 +7,8 @@ use Rattle.lx_sheet.proofs.Past.{level_of_past, tracked_past}
 use Rattle.lx_sheet.proofs.RightRows.{IsOrderOf, count_under-map, count_under_within}
 use Rattle.lx_sheet.proofs.RowPool.{own_apart}
 use Rattle.lx_sheet.proofs.Rows.{last_value_same, level_of_block, count_up_to, numbers-rows_of, sheet_of}
+use Rattle.lx_sheet.proofs.Imports.{refl}
+use Rattle.lx_sheet.proofs.BlockReach.{covers_lent}
 use Rattle.lx_sheet.proofs.sheet.Sheet.fill.Goals as goal
 
 pub fill_column-requires-clause-from : goal.fill_column-requires-clause-from
@@ -115,3 +117,57 @@ returns-else-get-self-clause-column c = λ n.
     ∙ level_of_past c.self.inside.channels c.self.inside.order.items c.self.inside.levels.items n c.args.chan c.self.invariant.sorted
     past
     ∙ sym (tracked_past c.args.show.now n c.args.chan c.cues-cues.ensures.valid (omega (arith, channels, past)))
+
+pub below-first-requires : goal.below-first-requires
+below-first-requires c = subst (IsStrictlySorted (λ (cue : Cue). cue.number)) (sym c.cues-cues.ensures.cues) c.cues-cues.ensures.valid.cues_sorted
+
+pub overflow_cast-get : goal.overflow_cast-get
+overflow_cast-get c = omega (arith, c.get-2.ensures.most)
+
+pub fill_column-requires-clause-few : goal.fill_column-requires-clause-few
+fill_column-requires-clause-few c = c.self.invariant.few
+
+pub fill_column-requires-clause-room : goal.fill_column-requires-clause-room
+fill_column-requires-clause-room c =
+    covers_lent c.self.inside.channels _ c.self.inside.levels.items _ c.self.inside.order.items _ refl c.deref.ensures.value
+    (ap length c.deref_mut.ensures.value) c.self.invariant.covered
+
+pub fill_column-requires-clause-to : goal.fill_column-requires-clause-to
+fill_column-requires-clause-to c = omega (arith, c.requires.to, ap length c.cues-cues.ensures.cues)
+
+pub fill_column-requires-clause-within : goal.fill_column-requires-clause-within
+fill_column-requires-clause-within c = omega (arith, c.get-2.ensures.value, c.if-get-self.true)
+
+pub invariant_of-self : goal.invariant_of-self
+invariant_of-self c = record {
+  few = c.self.invariant.few;
+  sorted = c.self.invariant.sorted;
+  pool = c.self.invariant.pool;
+  row_room = c.self.invariant.row_room;
+  free_room = c.self.invariant.free_room;
+  level_room = c.self.invariant.level_room;
+  covered = covers_lent c.self.inside.channels _ c.self.inside.levels.items _ c.self.inside.order.items _ refl refl
+      (ap length (with_items_is c.self.inside.levels c.fill_column.new.levels (omega arith)) ∙ omega arith) c.self.invariant.covered;
+  look_room = c.self.invariant.look_room;
+  table = c.self.invariant.table;
+  reached = λ r within. c.self.invariant.reached r
+      (omega (arith, within, ap length (with_items_is c.self.inside.levels c.fill_column.new.levels (omega arith))));
+}
+
+pub returns-then-get-self-clause-channels : goal.returns-then-get-self-clause-channels
+returns-then-get-self-clause-channels c = ap (λ (s : Sheet). s.channels) c.self.view_is
+
+pub returns-then-get-self-clause-marks : goal.returns-then-get-self-clause-marks
+returns-then-get-self-clause-marks c = ap (λ (s : Sheet). s.marks) c.self.view_is
+
+pub returns-else-get-self-clause-others : goal.returns-else-get-self-clause-others
+returns-else-get-self-clause-others c = λ n x other. refl
+
+pub returns-else-get-self-clause-numbers : goal.returns-else-get-self-clause-numbers
+returns-else-get-self-clause-numbers c = refl
+
+pub returns-else-get-self-clause-channels : goal.returns-else-get-self-clause-channels
+returns-else-get-self-clause-channels c = refl
+
+pub returns-else-get-self-clause-marks : goal.returns-else-get-self-clause-marks
+returns-else-get-self-clause-marks c = refl

@@ -1,13 +1,14 @@
 use Rattle.lx_sheet.proofs.Imports.{◌≡◌, ◌+◌, ◌*◌, ◌<◌, ◌≤◌, ℕ, List, length, ap, sym, ◌∙◌, subst, refl, arith, IfSome, None}
 use Rattle.lx_sheet.proofs.Imports.{insert, max, slice_get, length_refill, with_items, with_items_is, CUES, IsStrictlySorted, Cue, Show, with_cue, cue_of}
-use Rattle.lx_sheet.proofs.Imports.{Marks, Place, AreApart, Covers, own_rows, row_at_place, width, IsMarkedFor, FillsRows, IsPassed, RowsStandFor}
+use Rattle.lx_sheet.proofs.Imports.{Sheet, Marks, Place, AreApart, Covers, own_rows, row_at_place, width, IsMarkedFor, FillsRows, IsPassed}
+use Rattle.lx_sheet.proofs.Imports.{RowsStandFor}
 use Rattle.std.proofs.lemmas.List.Edits.{length-insert}
 use Rattle.lx_sheet.proofs.BlockReach.{covers_inserted, covers_lent, covers_longer, stands_same}
 use Rattle.lx_sheet.proofs.MarkedRows.{kept_places, marked_place, reached_grown, reached_more, table_grown}
 use Rattle.lx_sheet.proofs.RightRows.{order_of, order_length, rows_right}
 use Rattle.lx_sheet.proofs.RowPool.{own_apart}
 use Rattle.lx_sheet.proofs.Rows.{sheet_of}
-use Rattle.lx_sheet.proofs.ShiftedRows.{absent_alike, told_as, passed, inserted, one_more, shifted_stands}
+use Rattle.lx_sheet.proofs.ShiftedRows.{absent_alike, told_as, valid_told, passed, inserted, one_more, shifted_stands}
 use Rattle.lx_sheet.proofs.sheet.Sheet.insert_row.Goals as goal
 
 -- with the row of the cue that came the block covers the new order
@@ -175,3 +176,95 @@ invariant_of-self-in_default c = record {
   table = c.self.invariant.table;
   reached = c.self.invariant.reached;
 }
+
+-- the place of the cue that came is one of the order
+within_new : (old new lent : List Place) (at : ℕ) (place : Place) → new ≡ insert old at place → at ≤ length old → lent ≡ new → at < length lent
+within_new old new lent at place added within same = omega (arith, ap length same, ap length added ∙ length-insert old at place within, within)
+
+within_cues : (old new : List Place) (at len : ℕ) (place : Place) (cues : List Cue) → new ≡ insert old at place → at ≤ length old
+    → len ≡ length new → len ≡ length cues → at < length cues
+within_cues old new at len place cues added within is same =
+    omega (arith, within_new old new new at place added within refl, is, same)
+
+pub cues-cues-requires : goal.cues-cues-requires
+cues-cues-requires c = tt
+
+pub add_place-requires-clause-sorted : goal.add_place-requires-clause-sorted
+add_place-requires-clause-sorted c = c.self.invariant.sorted
+
+pub add_place-requires-clause-pool : goal.add_place-requires-clause-pool
+add_place-requires-clause-pool c = c.self.invariant.pool
+
+pub add_place-requires-clause-room : goal.add_place-requires-clause-room
+add_place-requires-clause-room c = c.self.invariant.row_room
+
+pub own_row-row-requires-clause-place : goal.own_row-row-requires-clause-place
+own_row-row-requires-clause-place c =
+    within_new _ _ _ c.in-Some.at _ c.in-Some.ensures.added c.in-Some.ensures.goes.within c.deref.ensures.value
+
+pub overflow_add-row : goal.overflow_add-row
+overflow_add-row c = omega (arith, c.own_row-row.ensures.within)
+
+pub reach-requires-clause-few : goal.reach-requires-clause-few
+reach-requires-clause-few c = c.self.invariant.few
+
+pub reach-requires-clause-rows : goal.reach-requires-clause-rows
+reach-requires-clause-rows c = omega (arith, c.own_row-row.ensures.within)
+
+pub reach-requires-clause-room : goal.reach-requires-clause-room
+reach-requires-clause-room c = c.self.invariant.level_room
+
+pub overflow_add-row-in-Some : goal.overflow_add-row-in-Some
+overflow_add-row-in-Some c = omega (arith, c.own_row-row.ensures.within)
+
+pub reach-requires-in-Some-clause-rows : goal.reach-requires-in-Some-clause-rows
+reach-requires-in-Some-clause-rows c = omega (arith, c.own_row-row.ensures.within)
+
+pub reach-requires-in-Some-clause-few : goal.reach-requires-in-Some-clause-few
+reach-requires-in-Some-clause-few c = c.self.invariant.table.few
+
+pub reach-requires-in-Some-clause-room : goal.reach-requires-in-Some-clause-room
+reach-requires-in-Some-clause-room c = c.self.invariant.table.room
+
+pub offset_bounds-cues-at : goal.offset_bounds-cues-at
+offset_bounds-cues-at c =
+    omega (
+      arith,
+      c.cues-cues.type_inv,
+      within_cues _ _ c.in-Some.at _ _ c.cues-cues.result.now c.in-Some.ensures.added c.in-Some.ensures.goes.within
+          (omega (arith, c.len.ensures, c.add_place.new.order.ok)) c.if-len-cues.true,
+    )
+
+pub bounds-cues-at : goal.bounds-cues-at
+bounds-cues-at c =
+    within_cues _ _ c.in-Some.at _ _ c.cues-cues.result.now c.in-Some.ensures.added c.in-Some.ensures.goes.within
+    (omega (arith, c.len.ensures, c.add_place.new.order.ok)) c.if-len-cues.true
+
+pub write-requires-clause-row : goal.write-requires-clause-row
+write-requires-clause-row c = c.own_row-row.ensures.within
+
+pub write-requires-clause-few : goal.write-requires-clause-few
+write-requires-clause-few c = omega (arith, c.reach-in-Some.ensures.table.groups, c.self.invariant.table.few)
+
+pub write-requires-clause-reach : goal.write-requires-clause-reach
+write-requires-clause-reach c = c.reach-in-Some.ensures.reach c.own_row-row.result (omega arith)
+
+pub fill_inserted-requires-clause-few : goal.fill_inserted-requires-clause-few
+fill_inserted-requires-clause-few c =
+    omega (arith, ap length c.deref_mut-then-len-cues.ensures.value, c.self.invariant.look_room, c.self.invariant.few)
+
+pub fill_inserted-requires-clause-order : goal.fill_inserted-requires-clause-order
+fill_inserted-requires-clause-order c =
+    omega (arith, ap length c.deref-then-len-cues.ensures.value, c.if-len-cues.true, c.len.ensures, c.add_place.new.order.ok)
+
+pub fill_inserted-requires-clause-valid : goal.fill_inserted-requires-clause-valid
+fill_inserted-requires-clause-valid c =
+    let same : length c.deref_mut-then-len-cues.result.now ≡ c.self.inside.channels =
+    omega (arith, ap length c.deref_mut-then-len-cues.ensures.value, c.self.invariant.look_room) in
+    valid_told c.args.show.now.channels _ _ _ c.cues-cues.ensures.valid.cues c.cues-cues.ensures.cues
+    (same ∙ ap (λ (s : Sheet). s.channels) c.self.view_is ∙ c.requires)
+
+pub fill_inserted-requires-clause-at : goal.fill_inserted-requires-clause-at
+fill_inserted-requires-clause-at c =
+    within_cues _ _ c.in-Some.at _ _ c.cues-cues.result.now c.in-Some.ensures.added c.in-Some.ensures.goes.within
+    (omega (arith, c.len.ensures, c.add_place.new.order.ok)) c.if-len-cues.true

@@ -6,6 +6,8 @@ use Rattle.lx_sheet.proofs.RightRows.{order_of, rows_right}
 use Rattle.lx_sheet.proofs.RowPool.{own_apart, row_within}
 use Rattle.lx_sheet.proofs.Rows.{sheet_of}
 use Rattle.lx_sheet.proofs.ShiftedRows.{absent_alike, left_behind, removed, shifted_stands, taken_absent, told_as}
+use Rattle.lx_sheet.proofs.ShiftedRows.{valid_told}
+use Rattle.lx_sheet.specs.Rows.{Sheet}
 use Rattle.lx_sheet.proofs.sheet.Sheet.remove_row.Goals as goal
 
 -- the block covers the rows that are left
@@ -141,3 +143,39 @@ fill_removed-requires-clause-left c =
     (subst (λ r. (r + 1) * width c.self.inside.channels ≤ length c.self.inside.levels.items) (sym c.in-Some.ensures.row)
     (covered_at c.self.inside.channels c.self.inside.levels.items c.self.inside.order.items c.in-Some.freed.at c.self.invariant.covered
     c.in-Some.ensures.stands.within)))
+
+pub drop_place-requires-clause-sorted : goal.drop_place-requires-clause-sorted
+drop_place-requires-clause-sorted c = c.self.invariant.sorted
+
+pub drop_place-requires-clause-pool : goal.drop_place-requires-clause-pool
+drop_place-requires-clause-pool c = c.self.invariant.pool
+
+pub drop_place-requires-clause-free_room : goal.drop_place-requires-clause-free_room
+drop_place-requires-clause-free_room c = c.self.invariant.free_room
+
+pub fill_removed-requires-clause-few : goal.fill_removed-requires-clause-few
+fill_removed-requires-clause-few c =
+    omega (arith, ap length c.deref_mut-then-len-cues.ensures.value, c.self.invariant.look_room, c.self.invariant.few)
+
+pub fill_removed-requires-clause-order : goal.fill_removed-requires-clause-order
+fill_removed-requires-clause-order c = omega (arith, ap length c.deref.ensures.value, c.if-len-cues.true, c.len.ensures, c.drop_place.new.order.ok)
+
+pub fill_removed-requires-clause-valid : goal.fill_removed-requires-clause-valid
+fill_removed-requires-clause-valid c = valid_told c.args.show.now.channels _ _ _ c.cues-cues.ensures.valid.cues c.cues-cues.ensures.cues
+    (omega (arith, ap length c.deref_mut-then-len-cues.ensures.value, c.self.invariant.look_room)
+    ∙ ap (λ (s : Sheet). s.channels) c.self.view_is ∙ c.requires)
+
+pub invariant_of-self-in_default : goal.invariant_of-self-in_default
+invariant_of-self-in_default c = record {
+  few = c.self.invariant.few;
+  sorted = c.drop_place.ensures.sorted;
+  pool = c.drop_place.ensures.pool;
+  row_room = omega (arith, c.drop_place.ensures.rooms.0, c.self.invariant.row_room);
+  free_room = omega (arith, c.drop_place.ensures.rooms.1, c.self.invariant.free_room);
+  level_room = c.self.invariant.level_room;
+  covered = subst (Covers c.self.inside.channels c.self.inside.levels.items) (sym (c.drop_place.ensures.none c.in_default.is))
+      c.self.invariant.covered;
+  look_room = c.self.invariant.look_room;
+  table = c.self.invariant.table;
+  reached = c.self.invariant.reached;
+}

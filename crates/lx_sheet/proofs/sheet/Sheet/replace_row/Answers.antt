@@ -7,6 +7,11 @@ use Rattle.lx_sheet.proofs.RightRows.{order_of}
 use Rattle.lx_sheet.proofs.RowPool.{own_apart}
 use Rattle.lx_sheet.proofs.Rows.{sheet_of}
 use Rattle.lx_sheet.proofs.ShiftedRows.{replaced, shifted_stands, told_as}
+use Rattle.lx_sheet.proofs.Imports.{Covers, Sheet, length_refill, width}
+use Rattle.lx_sheet.proofs.Imports.{refl}
+use Rattle.lx_sheet.proofs.BlockReach.{covered_at, covers_lent}
+use Rattle.lx_sheet.proofs.MarkedRows.{reached_grown, table_grown}
+use Rattle.lx_sheet.proofs.ShiftedRows.{valid_told}
 use Rattle.lx_sheet.proofs.sheet.Sheet.replace_row.Goals as goal
 
 pub own_row-requires-clause-rows : goal.own_row-requires-clause-rows
@@ -86,3 +91,72 @@ returns-in_default c = λ before cue stands number there now.
     c.in_default.ensures.goes.absent in
     absurd (false≢true (sym (ap is_some absent)
     ∙ same_numbers (λ (p : Place). p.cue) (λ (cue : Cue). cue.number) c.args.n order before.cues is_order.numbers ∙ there))
+
+pub index_of-requires : goal.index_of-requires
+index_of-requires c = subst (IsStrictlySorted (λ (p : Place). p.cue)) (sym c.as_slice-order.ensures.value) c.self.invariant.sorted
+
+pub own_row-requires-clause-place : goal.own_row-requires-clause-place
+own_row-requires-clause-place c = c.in-Ok.ensures.stands.within
+
+pub offset_bounds-cues-place : goal.offset_bounds-cues-place
+offset_bounds-cues-place c = omega (arith, c.cues-cues.type_inv, c.if-order-cues.true, c.in-Ok.ensures.stands.within)
+
+pub bounds-cues-place : goal.bounds-cues-place
+bounds-cues-place c = omega (arith, c.if-order-cues.true, c.in-Ok.ensures.stands.within)
+
+pub write-requires-clause-row : goal.write-requires-clause-row
+write-requires-clause-row c = c.own_row.ensures.within
+
+pub write-requires-clause-few : goal.write-requires-clause-few
+write-requires-clause-few c = c.self.invariant.table.few
+
+pub write-requires-clause-reach : goal.write-requires-clause-reach
+write-requires-clause-reach c =
+    let row : c.own_row.result ≡ row_at_place c.self.inside.order.items c.in-Ok.place = c.own_row.ensures.row
+    ∙ ap (λ (xs : List Place). row_at_place xs c.in-Ok.place) c.as_slice-order.ensures.value in
+    c.self.invariant.reached c.own_row.result (subst (λ r. (r + 1) * width c.self.inside.channels ≤ length c.self.inside.levels.items) (sym row)
+    (covered_at c.self.inside.channels c.self.inside.levels.items c.self.inside.order.items c.in-Ok.place c.self.invariant.covered
+    (omega (arith, c.in-Ok.ensures.stands.within, ap length c.as_slice-order.ensures.value))))
+
+pub overflow_add-place : goal.overflow_add-place
+overflow_add-place c = omega (arith, c.cues-cues.type_inv, c.if-order-cues.true, c.in-Ok.ensures.stands.within)
+
+pub fill_from-requires-clause-few : goal.fill_from-requires-clause-few
+fill_from-requires-clause-few c =
+    omega (arith, ap length c.deref_mut-then-order-cues.ensures.value, c.self.invariant.look_room, c.self.invariant.few)
+
+pub fill_from-requires-clause-room : goal.fill_from-requires-clause-room
+fill_from-requires-clause-room c = covers_lent c.self.inside.channels _ c.self.inside.levels.items _ c.self.inside.order.items _
+    (omega (arith, ap length c.deref_mut-then-order-cues.ensures.value, c.self.invariant.look_room)) c.as_slice-order.ensures.value
+    (ap length c.deref_mut.ensures.value) c.self.invariant.covered
+
+pub fill_from-requires-clause-order : goal.fill_from-requires-clause-order
+fill_from-requires-clause-order c = omega (arith, c.if-order-cues.true)
+
+pub fill_from-requires-clause-valid : goal.fill_from-requires-clause-valid
+fill_from-requires-clause-valid c = valid_told c.args.show.now.channels _ _ _ c.cues-cues.ensures.valid.cues c.cues-cues.ensures.cues
+    (omega (arith, ap length c.deref_mut-then-order-cues.ensures.value, c.self.invariant.look_room)
+    ∙ ap (λ (s : Sheet). s.channels) c.self.view_is ∙ c.requires)
+
+pub fill_from-requires-clause-from : goal.fill_from-requires-clause-from
+fill_from-requires-clause-from c = omega (arith, c.if-order-cues.true, c.in-Ok.ensures.stands.within)
+
+pub invariant_of-self : goal.invariant_of-self
+invariant_of-self c = record {
+  few = c.self.invariant.few;
+  sorted = c.self.invariant.sorted;
+  pool = c.self.invariant.pool;
+  row_room = c.self.invariant.row_room;
+  free_room = c.self.invariant.free_room;
+  level_room = c.self.invariant.level_room;
+  covered = covers_lent c.self.inside.channels _ c.self.inside.levels.items _ c.self.inside.order.items _ refl refl
+      (ap length (with_items_is c.self.inside.levels c.fill_from.new.levels (omega arith)) ∙ omega arith) c.self.invariant.covered;
+  look_room = omega (
+    arith,
+    c.self.invariant.look_room,
+    length_refill c.self.inside.look.len c.self.inside.look.items c.fill_from.new.look (omega arith),
+  );
+  table = table_grown c.self.inside.channels c.self.inside.marks c.write.new.self c.write.ensures.table c.self.invariant.table;
+  reached = λ r within. reached_grown c.self.inside.marks c.write.new.self r c.write.ensures.table (c.self.invariant.reached r
+      (omega (arith, within, ap length (with_items_is c.self.inside.levels c.fill_from.new.levels (omega arith)))));
+}

@@ -3,6 +3,7 @@ use Rattle.lx_sheet.proofs.Imports.{Sheet, row_at, numbers_of, RowsStandFor, row
 use Rattle.lx_sheet.proofs.Cells.{width_of}
 use Rattle.lx_sheet.proofs.Found.{absent_is, place_is, row_found, row_absent, cue_found, cue_absent}
 use Rattle.lx_sheet.proofs.RowPool.{own_apart}
+use Rattle.lx_sheet.proofs.Imports.{◌<◌, ◌≤◌, arith, CUES, IsStrictlySorted, mul-le-mul_right}
 use Rattle.lx_sheet.proofs.sheet.Sheet.row.Goals as goal
 
 -- the part of the block, written with the channel count
@@ -59,3 +60,25 @@ returns-in-Err-clause-stands c = λ show stands.
     let goes = c.in-Err.ensures.goes in
     cue_absent show channels order levels c.args.n (λ cue. row_of show c.args.n) (ap numbers_of c.self.view_is ∙ stands.numbers)
     (absent_is c.args.n c.get.result c.as_slice-order.result.now order c.get.ensures.value c.as_slice-order.ensures.value goes.absent)
+
+pub index_of-requires : goal.index_of-requires
+index_of-requires c = subst (IsStrictlySorted (λ (p : Place). p.cue)) (sym c.as_slice-order.ensures.value) c.self.invariant.sorted
+
+pub own_row-row-requires-clause-place : goal.own_row-row-requires-clause-place
+own_row-row-requires-clause-place c = c.in-Ok.ensures.stands.within
+
+-- a row of the block begins below its end
+within_block : (row channels : ℕ) → row < CUES → row * (channels + 64) ≤ CUES * (channels + 64)
+within_block row channels within = mul-le-mul_right {m = row} {n = CUES} (channels + 64) (omega (arith, within))
+
+pub overflow_add-start : goal.overflow_add-start
+overflow_add-start c = omega (arith, c.self.invariant.few)
+
+pub overflow_mul-start : goal.overflow_mul-start
+overflow_mul-start c = omega (arith, within_block c.own_row-row.result c.self.inside.channels c.own_row-row.ensures.within, c.self.invariant.few)
+
+pub overflow_add-result : goal.overflow_add-result
+overflow_add-result c = omega (arith, within_block c.own_row-row.result c.self.inside.channels c.own_row-row.ensures.within, c.self.invariant.few)
+
+pub slice_bounds-result-count : goal.slice_bounds-result-count
+slice_bounds-result-count c = omega arith
