@@ -22,7 +22,15 @@ HasRisen WriteFault reads reads' faults faults' wants wants' = Rose faults fault
 HasRisen InputTooLong reads reads' faults faults' wants wants' = Unit {0}
 HasRisen Memory reads reads' faults faults' wants wants' = Rose wants wants'
 
--- no count has fallen, a fault comes only where its own count rose, and an Ok only where all stand as they were
+-- no other fault is passed over: one of the input comes only where the output had none, and one of the output only where the input had none
+abbrev pub IsAlone : SessionFault → (reads reads' faults faults' wants wants' : ℕ) → Type 0
+IsAlone ReadFault reads reads' faults faults' wants wants' = (faults' ≡ faults) × (wants' ≡ wants)
+IsAlone WriteFault reads reads' faults faults' wants wants' = reads' ≡ reads
+IsAlone InputTooLong reads reads' faults faults' wants wants' = (reads' ≡ reads) × ((faults' ≡ faults) × (wants' ≡ wants))
+IsAlone Memory reads reads' faults faults' wants wants' = reads' ≡ reads
+
+-- no count has fallen, a fault comes only where its own count rose and the other side had none, and an Ok only where all stand
+-- as they were
 pub record HasSessionCause {S K T : Type 0} (told_in : ToldBySource S) (told_out : ToldBySink K) (old new : Lines S) (sink sink' : K)
     (result : Result T SessionFault) : Type 0 where
   pub later : told_in.faults old.source.now ≤ told_in.faults new.source.now
@@ -30,6 +38,9 @@ pub record HasSessionCause {S K T : Type 0} (told_in : ToldBySource S) (told_out
   pub wants_later : told_out.wants sink ≤ told_out.wants sink'
   pub failed : IfErr result
       (λ fault. HasRisen fault (told_in.faults old.source.now) (told_in.faults new.source.now) (told_out.faults sink) (told_out.faults sink')
+      (told_out.wants sink) (told_out.wants sink'))
+  pub alone : IfErr result
+      (λ fault. IsAlone fault (told_in.faults old.source.now) (told_in.faults new.source.now) (told_out.faults sink) (told_out.faults sink')
       (told_out.wants sink) (told_out.wants sink'))
   pub kept : OnOk result ((told_in.faults new.source.now ≡ told_in.faults old.source.now) × (told_out.faults sink' ≡ told_out.faults sink)
       × (told_out.wants sink' ≡ told_out.wants sink))

@@ -1,6 +1,6 @@
 //! A session: script lines are read one after another, and each is answered before the next is awaited.
 
-ghost use Rattle.std.specs.Prelude.{◌≡◌, ◌≤◌, [], Bool, true, IfSome, OnOk};
+ghost use Rattle.std.specs.Prelude.{◌≡◌, ◌≤◌, Bool, true, IfSome};
 ghost use Rattle.lx_base.specs.declared.TheConstants.{INPUT_BYTES};
 ghost use Rattle.lx_lex.specs.Unread.{CanAdvance, SameSource, bytes_taken, source_left, unread};
 ghost use Rattle.lx_spec.specs.Desk.{Desk};
@@ -10,6 +10,7 @@ ghost use Rattle.lx_session.specs.ScriptAnswer.{ScriptAnswered};
 ghost use Rattle.lx_session.specs.Listening.{HasDone};
 ghost use Rattle.lx_session.specs.Spared.{HasStood, IsAmple, MayTake, spared};
 ghost use Rattle.lx_session.specs.SessionOutcome.{HasSessionCause, KeepsLimit};
+ghost use Rattle.lx_session.specs.Waits.{HandsOnReplies};
 
 use crate::answers::Answers;
 use crate::beside::AnswersBeside;
@@ -26,8 +27,10 @@ use lx_lex::Lines;
 ///
 /// `ReadFault` comes only where the source failed, `InputTooLong` exactly where a wanted line has a byte
 /// past the limit of the input; the lines before it are then wholly answered. `WriteFault` and `Memory`
-/// come only where the sink answered them; what was written is then a prefix of the whole text. With Ok all
-/// of it is handed on, and no count of faults rose. However it ends, the console stands for the desk after the commands that were accepted.
+/// come only where the sink answered them; what was written is then a prefix of the whole text. A fault of the
+/// input comes only where the output had none, and one of the output only where the input had none. With Ok all
+/// of the text is handed on, and no count of faults rose. Where a read fails, all replies before it are handed on.
+/// However it ends, the console stands for the desk after the commands that were accepted.
 pub fn session<S: Source, K: Sink>(
     console: &mut Console,
     lines: &mut Lines<S>,
@@ -42,7 +45,7 @@ pub fn session<S: Source, K: Sink>(
         (unread S.Source lines.new) (source_left S.Source lines.new) (K.holds sink.old) (K.holds sink.new) result) }
     ensures limit { IfSome (unread S.Source lines.old) (λ bytes. KeepsLimit (bytes_taken lines.old) bytes result) }
     ensures cause { HasSessionCause S.Source K.Sink lines.old lines.new sink.old sink.new result }
-    ensures handed_on { OnOk result (K.back sink.new ≡ []) }
+    ensures handed_on { HandsOnReplies result (K.back sink.new) }
 {
     let mut heap = SystemHeap::new(console.allocator());
     session_in(&mut heap, console, lines, sink)
@@ -64,7 +67,7 @@ pub fn session_in<H: Heap, S: Source, K: Sink>(
         (bytes_taken lines.old) bytes (unread S.Source lines.new) (source_left S.Source lines.new) (K.holds sink.old) (K.holds sink.new) result) }
     ensures limit { IfSome (unread S.Source lines.old) (λ bytes. KeepsLimit (bytes_taken lines.old) bytes result) }
     ensures cause { HasSessionCause S.Source K.Sink lines.old lines.new sink.old sink.new result }
-    ensures handed_on { OnOk result (K.back sink.new ≡ []) }
+    ensures handed_on { HandsOnReplies result (K.back sink.new) }
     ensures later { H.refusals heap.old ≤ H.refusals heap.new }
 {
     session_with_in(&mut NoListener, heap, console, lines, sink)
@@ -92,7 +95,7 @@ pub fn session_with_in<L: Listener, H: Heap, S: Source, K: Sink>(
         (unread S.Source lines.new) (source_left S.Source lines.new) (K.holds sink.old) (K.holds sink.new) result) }
     ensures limit { IfSome (unread S.Source lines.old) (λ bytes. KeepsLimit (bytes_taken lines.old) bytes result) }
     ensures cause { HasSessionCause S.Source K.Sink lines.old lines.new sink.old sink.new result }
-    ensures handed_on { OnOk result (K.back sink.new ≡ []) }
+    ensures handed_on { HandsOnReplies result (K.back sink.new) }
     ensures later { H.refusals heap.old ≤ H.refusals heap.new }
 {
     answer_each(listener, console, heap, lines, sink)
@@ -103,8 +106,10 @@ pub fn session_with_in<L: Listener, H: Heap, S: Source, K: Sink>(
 ///
 /// `ReadFault` comes only where the source failed, `InputTooLong` exactly where a wanted line has a byte
 /// past the limit of the input; the lines before it are then wholly answered. `WriteFault` and `Memory`
-/// come only where the sink answered them; what was written is then a prefix of the whole text. However it
-/// ends, what answers stands for the state after the lines that were done.
+/// come only where the sink answered them; what was written is then a prefix of the whole text. A fault of the
+/// input comes only where the output had none, and one of the output only where the input had none. Where a read
+/// fails, all replies before it are handed on. However it ends, what answers stands for the state after the lines
+/// that were done.
 ///
 /// Where the heap refused nothing in this call, no attempt failed.
 pub fn answer_lines_in<A: Answers, H: Heap, S: Source, K: Sink>(
@@ -123,7 +128,7 @@ pub fn answer_lines_in<A: Answers, H: Heap, S: Source, K: Sink>(
         (unread S.Source lines.new) (source_left S.Source lines.new) (K.holds sink.old) (K.holds sink.new) result) }
     ensures limit { IfSome (unread S.Source lines.old) (λ bytes. KeepsLimit (bytes_taken lines.old) bytes result) }
     ensures cause { HasSessionCause S.Source K.Sink lines.old lines.new sink.old sink.new result }
-    ensures handed_on { OnOk result (K.back sink.new ≡ []) }
+    ensures handed_on { HandsOnReplies result (K.back sink.new) }
     ensures later { H.refusals heap.old ≤ H.refusals heap.new }
 {
     answer_each(answerer, &mut (), heap, lines, sink)
@@ -149,7 +154,7 @@ fn answer_each<D, A: AnswersBeside<D>, H: Heap, S: Source, K: Sink>(
         (unread S.Source lines.new) (source_left S.Source lines.new) (K.holds sink.old) (K.holds sink.new) result) }
     ensures limit { IfSome (unread S.Source lines.old) (λ bytes. KeepsLimit (bytes_taken lines.old) bytes result) }
     ensures cause { HasSessionCause S.Source K.Sink lines.old lines.new sink.old sink.new result }
-    ensures handed_on { OnOk result (K.back sink.new ≡ []) }
+    ensures handed_on { HandsOnReplies result (K.back sink.new) }
     ensures later { H.refusals heap.old ≤ H.refusals heap.new }
 {
     let mut tally = Tally::new();

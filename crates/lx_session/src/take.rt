@@ -1,6 +1,6 @@
 //! One line of a session: it is taken from the source and answered.
 
-ghost use Rattle.std.specs.Prelude.{◌≡◌, ◌⊎◌, ◌≤◌, List, ℕ, Bool, [], true, false, Some, None, IfOk, OnOk, OnErr, not, option_copied};
+ghost use Rattle.std.specs.Prelude.{◌≡◌, ◌⊎◌, ◌≤◌, List, ℕ, Bool, [], true, false, Some, None, Err, IfOk, OnOk, OnErr, not, option_copied};
 ghost use Rattle.std.specs.Io.KnownBytes.{Keeps};
 ghost use Rattle.lx_io.specs.Puts.{HasSinkCause};
 ghost use Rattle.lx_lex.specs.Unread.{CanAdvance, SameSource, held, has_feed, lines_handed};
@@ -18,7 +18,7 @@ use lx_io::{Heap, Sink, SinkFault, Source};
 use lx_lex::{Lines, Step};
 
 /// Takes the next line and answers it. Before a read that may wait, what was written is handed on. It answers
-/// false where the script has ended, and then all that was written is handed on.
+/// false where the script has ended, and then all that was written is handed on. So it is where a read fails.
 pub(crate) fn take_line<D, A: AnswersBeside<D>, H: Heap, S: Source, K: Sink>(
     answerer: &mut A,
     lent: &mut D,
@@ -41,6 +41,7 @@ pub(crate) fn take_line<D, A: AnswersBeside<D>, H: Heap, S: Source, K: Sink>(
     ensures cause { HasSessionCause S.Source K.Sink lines.old lines.new sink.old sink.new result }
     ensures waits { WaitsFlushed K.Sink lines.old lines.new sink.old }
     ensures handed_on { IfOk result (λ more. more ≡ false → K.back sink.new ≡ []) }
+    ensures read_handed_on { result ≡ Err SessionFault.ReadFault → K.back sink.new ≡ [] }
     ensures more { HasOneMore tally.old tally.new }
 {
     flush_before_wait(lines, sink)?;
