@@ -1,6 +1,6 @@
 //! Sessions of two lists: a line whose first token is 2 is for the second one.
 
-ghost use Rattle.std.specs.Prelude.{◌≡◌, ◌≤◌, List, ℕ, Bool, IfOk, IfSome, None, not, true, false, option_copied, [], OnOk};
+ghost use Rattle.std.specs.Prelude.{◌≡◌, ◌≤◌, List, ℕ, Bool, IfOk, IfSome, None, not, true, false, option_copied};
 ghost use Rattle.lx_base.specs.declared.TheConstants.{INPUT_BYTES};
 ghost use Rattle.lx_io.specs.Puts.{HasSinkCause};
 ghost use Rattle.lx_lex.specs.Unread.{CanAdvance, SameSource, bytes_taken, source_left, unread};
@@ -11,6 +11,7 @@ ghost use Rattle.lx_session.specs.OneAnswer.{IsLine, OneAnswer};
 ghost use Rattle.lx_session.specs.Spared.{HasStood, spared};
 ghost use Rattle.lx_session.specs.ScriptAnswer.{ScriptAnswered};
 ghost use Rattle.lx_session.specs.SessionOutcome.{HasSessionCause, KeepsLimit};
+ghost use Rattle.lx_session.specs.Waits.{HandsOnReplies};
 ghost use Rattle.lx_lists.specs.TwoListsMeaning.{TwoStand};
 ghost use Rattle.lx_lists.specs.SecondLines.{IsRestFor};
 
@@ -28,8 +29,10 @@ use lx_session::{Answers, SessionFault, Tally, Turn, answer_lines_in};
 ///
 /// `ReadFault` comes only where the source failed, `InputTooLong` exactly where a wanted line has a byte past the limit
 /// of the input; the lines before it are then wholly answered. `WriteFault` and `Memory` come only where the sink
-/// answered them; what was written is then a prefix of the whole text. However it ends, the lists stand for the state
-/// after the lines that were done. Out of memory refuses only edits that nothing else refuses.
+/// answered them; what was written is then a prefix of the whole text. A fault of the input comes only where the output
+/// had none, and one of the output only where the input had none. Where a read fails, all replies before it are handed
+/// on. However it ends, the lists stand for the state after the lines that were done. Out of memory refuses only edits
+/// that nothing else refuses.
 pub fn two_session<S: Source, K: Sink>(
     desk: &mut TwoLists,
     lines: &mut Lines<S>,
@@ -44,7 +47,7 @@ pub fn two_session<S: Source, K: Sink>(
         (unread S.Source lines.new) (source_left S.Source lines.new) (K.holds sink.old) (K.holds sink.new) result) }
     ensures limit { IfSome (unread S.Source lines.old) (λ bytes. KeepsLimit (bytes_taken lines.old) bytes result) }
     ensures cause { HasSessionCause S.Source K.Sink lines.old lines.new sink.old sink.new result }
-    ensures handed_on { OnOk result (K.back sink.new ≡ []) }
+    ensures handed_on { HandsOnReplies result (K.back sink.new) }
 {
     let mut heap = SystemHeap::new(desk.allocator());
     two_session_in(desk, &mut heap, lines, sink)
@@ -67,7 +70,7 @@ pub fn two_session_in<H: Heap, S: Source, K: Sink>(
         (unread S.Source lines.new) (source_left S.Source lines.new) (K.holds sink.old) (K.holds sink.new) result) }
     ensures limit { IfSome (unread S.Source lines.old) (λ bytes. KeepsLimit (bytes_taken lines.old) bytes result) }
     ensures cause { HasSessionCause S.Source K.Sink lines.old lines.new sink.old sink.new result }
-    ensures handed_on { OnOk result (K.back sink.new ≡ []) }
+    ensures handed_on { HandsOnReplies result (K.back sink.new) }
     ensures later { H.refusals heap.old ≤ H.refusals heap.new }
 {
     answer_lines_in(desk, heap, lines, sink)
