@@ -3,7 +3,7 @@ use Rattle.lx_desk.proofs.Imports.{◌≡◌, inl, inr, ℕ, ◌+◌, ◌≤◌,
 use Rattle.lx_desk.proofs.Imports.{◌∙◌, subst, INPUT_BYTES, Rose, AppendsFront, Lines, unread, first_lines-longer, Form, Crew, TextFault, lines_of}
 use Rattle.lx_desk.proofs.Imports.{over_show, fault_text, Reading, reads, lines_read, show_wanted, output_of, Loaded, ShowFault, reading_of, HasRead, Status}
 use Rattle.lx_desk.proofs.Imports.{WritesPrefix, RefusedBy, EndsJob, HasEnded, ServesOrWants, ServesNone, HasCrewEnded, WritesFirstLines, WritesCrewFront}
-use Rattle.lx_desk.proofs.Imports.{Bool, false, OperatorFailed, HasCrewCause, ToldBySource}
+use Rattle.lx_desk.proofs.Imports.{Bool, false, HasCauseOf, OperatorFailed, HasCrewCause, ToldBySource}
 use Rattle.lx_desk.specs.declared.desk.Status.TheVariants as status
 use Rattle.lx_desk.proofs.Inputs.{Says, IsOfShow, nothing_of_cut, means_of, told_fits, front_nothing, refusal_isnt_ok, if_known, both_known}
 use Rattle.lx_desk.proofs.Endings.{refusal_ends, refusal_ended}
@@ -96,16 +96,28 @@ module _ (form : Form) (count : ℕ) where
     | inr other ↦ nothing_known operator_told o h h' operators other.kept
   ]
 
--- each fault of the outside has its cause
+-- each fault of the outside has its cause, where the show was read
 pub served_cause : {S : Type 0} (told : ToldBySource S) (s : Status) (reads reads' writes writes' count : ℕ)
-    (operators operators' : List (Option S))
+    (operators operators' : List (Option S)) → reads' ≡ reads
     → (s ≡ status.ReadFault → OperatorFailed told count operators operators') → (s ≡ status.WriteFault → Rose writes writes')
     → HasCrewCause told s reads reads' writes writes' count operators operators'
-served_cause told status.ReadFault reads reads' writes writes' count operators operators' read write = inr (read refl)
-served_cause told status.WriteFault reads reads' writes writes' count operators operators' read write = write refl
-served_cause told status.Ok reads reads' writes writes' count operators operators' read write = tt
-served_cause told status.ShowRefused reads reads' writes writes' count operators operators' read write = tt
-served_cause told status.Usage reads reads' writes writes' count operators operators' read write = tt
-served_cause told status.Memory reads reads' writes writes' count operators operators' read write = tt
-served_cause told status.InputTooLong reads reads' writes writes' count operators operators' read write = tt
-served_cause told status.Live reads reads' writes writes' count operators operators' read write = tt
+served_cause told status.ReadFault reads reads' writes writes' count operators operators' kept read write = inr (kept, read refl)
+served_cause told status.WriteFault reads reads' writes writes' count operators operators' kept read write = (write refl, kept)
+served_cause told status.Ok reads reads' writes writes' count operators operators' kept read write = tt
+served_cause told status.ShowRefused reads reads' writes writes' count operators operators' kept read write = tt
+served_cause told status.Usage reads reads' writes writes' count operators operators' kept read write = tt
+served_cause told status.Memory reads reads' writes writes' count operators operators' kept read write = kept
+served_cause told status.InputTooLong reads reads' writes writes' count operators operators' kept read write = kept
+served_cause told status.Live reads reads' writes writes' count operators operators' kept read write = tt
+
+-- and where it wasn't, as another job has it
+pub refused_cause : {S : Type 0} (told : ToldBySource S) (s : Status) (reads reads' writes writes' count : ℕ) (operators : List (Option S))
+    → HasCauseOf s reads reads' writes writes' → HasCrewCause told s reads reads' writes writes' count operators operators
+refused_cause told status.ReadFault reads reads' writes writes' count operators c = inl (c.0, refl)
+refused_cause told status.WriteFault reads reads' writes writes' count operators c = c
+refused_cause told status.InputTooLong reads reads' writes writes' count operators c = c.0
+refused_cause told status.Memory reads reads' writes writes' count operators c = c
+refused_cause told status.Ok reads reads' writes writes' count operators c = tt
+refused_cause told status.ShowRefused reads reads' writes writes' count operators c = tt
+refused_cause told status.Usage reads reads' writes writes' count operators c = tt
+refused_cause told status.Live reads reads' writes writes' count operators c = tt

@@ -287,10 +287,10 @@ crew_finishes reads told_out sink sink' None told s tells c none =
     all_done reads reads told_out sink sink' s refl kept.1 kept.2 (none refl)
 crew_finishes reads told_out sink sink' (Some sinks.Failed) told s tells c none =
     subst (λ (t : Status). Finishes reads reads told_out sink sink' t) (sym tells)
-    (not_done reads reads told_out sink sink' status.WriteFault (λ done. done))
+    (not_done reads reads told_out sink sink' status.WriteFault (λ done. done) (λ other. other))
 crew_finishes reads told_out sink sink' (Some sinks.Memory) told s tells c none =
     subst (λ (t : Status). Finishes reads reads told_out sink sink' t) (sym tells)
-    (not_done reads reads told_out sink sink' status.Memory (λ done. done))
+    (not_done reads reads told_out sink sink' status.Memory (λ done. done) (λ other. other))
 
 pub crew_wants : {K : Type 0} (told_out : ToldBySink K) (sink sink' : K) (output : Option SinkFault) (told : List (Option OperatorFault))
     (s : Status) → TellsCrew output told s → OutputCause told_out sink sink' None output → HasWanted told_out sink sink' s

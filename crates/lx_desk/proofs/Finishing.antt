@@ -1,21 +1,30 @@
 -- What the end of a job says of the counts and of what is kept back, from the ends of its calls.
-use Rattle.lx_desk.proofs.Imports.{◌≡◌, ◌⊎◌, inl, inr, ℕ, Result, Ok, Err, OnOk, Option, List, [], ◌∙◌, sym, ◌≢◌, Lines, ShowFault}
-use Rattle.lx_desk.proofs.Imports.{SessionFault, Tally, HasSessionCause, Status, status_for, RefusedBy, status_kept, IsDone, Finishes, HasWanted}
-use Rattle.lx_desk.proofs.Imports.{ToldBySink, ToldBySource, Rose, WantsMemory, ◌≤◌, arith}
+use Rattle.lx_desk.proofs.Imports.{◌≡◌, ◌⊎◌, inl, inr, ℕ, Result, Ok, Err, Option, List, [], ◌∙◌, sym, ◌≢◌, Lines, ShowFault}
+use Rattle.lx_desk.proofs.Imports.{SessionFault, Tally, HasSessionCause, Status, status_for, RefusedBy, status_kept, IsDone, IsOfInput, Finishes, HasWanted}
+use Rattle.lx_desk.proofs.Imports.{ToldBySink, ToldBySource, Rose, WantsMemory, ◌≤◌, arith, refl, subst, HandsOnReplies}
 use Rattle.lx_reader.specs.declared.fault.ShowFault.TheVariants as shows
 use Rattle.lx_session.specs.declared.fault.SessionFault.TheVariants as faults
 use Rattle.lx_desk.specs.declared.desk.Status.TheVariants as status
 use Rattle.lx_desk.proofs.Inputs.{kept_is}
 
 -- a status that isn't that of a job that was done
-pub not_done : {K : Type 0} (reads reads' : ℕ) (told : ToldBySink K) (output output' : K) (s : Status) → (IsDone s → ⊥)
+pub cut_short : {K : Type 0} (reads reads' : ℕ) (told : ToldBySink K) (output output' : K) (s : Status) → (IsDone s → ⊥)
+    → (s ≡ status.ReadFault → (output' ≡ output) ⊎ (told.back output' ≡ [])) → (IsOfInput s → told.wants output' ≡ told.wants output)
     → Finishes reads reads' told output output' s
-not_done reads reads' told output output' s undone = record {
+cut_short reads reads' told output output' s undone waited want = record {
   reads_kept = λ done. absurd (undone done);
   writes_kept = λ done. absurd (undone done);
   wants_kept = λ done. absurd (undone done);
   handed_on = λ done. absurd (undone done);
+  waited = waited;
+  wants_alone = want;
 }
+
+-- nor one of the input
+pub not_done : {K : Type 0} (reads reads' : ℕ) (told : ToldBySink K) (output output' : K) (s : Status) → (IsDone s → ⊥) → (IsOfInput s → ⊥)
+    → Finishes reads reads' told output output' s
+not_done reads reads' told output output' s undone other =
+    cut_short reads reads' told output output' s undone (λ is. absurd (other (subst IsOfInput (sym is) tt))) (λ of_input. absurd (other of_input))
 
 pub all_done : {K : Type 0} (reads reads' : ℕ) (told : ToldBySink K) (output output' : K) (s : Status) → reads' ≡ reads
     → told.faults output' ≡ told.faults output → told.wants output' ≡ told.wants output → told.back output' ≡ []
@@ -25,6 +34,8 @@ all_done reads reads' told output output' s read write want back_none = record {
   writes_kept = λ done. write;
   wants_kept = λ done. want;
   handed_on = λ done. back_none;
+  waited = λ is. inr back_none;
+  wants_alone = λ of_input. want;
 }
 
 -- after reads of which none failed, where it was done
@@ -35,6 +46,8 @@ after_reads reads reads' reads'' told output output' s before f = record {
   writes_kept = f.writes_kept;
   wants_kept = f.wants_kept;
   handed_on = f.handed_on;
+  waited = f.waited;
+  wants_alone = f.wants_alone;
 }
 
 pub rose_since : (first before after : ℕ) → first ≤ before → Rose before after → Rose first after
@@ -42,18 +55,32 @@ rose_since first before after held rose = omega (arith, held, rose)
 
 -- a session
 pub session_finishes : {S K : Type 0} (told_in : ToldBySource S) (told_out : ToldBySink K) (old new : Lines S) (sink sink' : K)
-    (r : Result Tally SessionFault) → HasSessionCause told_in told_out old new sink sink' r → OnOk r (told_out.back sink' ≡ [])
+    (r : Result Tally SessionFault) → HasSessionCause told_in told_out old new sink sink' r → HandsOnReplies r (told_out.back sink')
     → Finishes (told_in.faults old.source.now) (told_in.faults new.source.now) told_out sink sink' (status_for r)
 session_finishes told_in told_out old new sink sink' (Ok tally) c none =
     all_done (told_in.faults old.source.now) (told_in.faults new.source.now) told_out sink sink' status.Ok c.kept.0 c.kept.1 c.kept.2 none
 session_finishes told_in told_out old new sink sink' (Err faults.ReadFault) c none =
-    not_done (told_in.faults old.source.now) (told_in.faults new.source.now) told_out sink sink' status.ReadFault (λ done. done)
+    cut_short (told_in.faults old.source.now) (told_in.faults new.source.now) told_out sink sink' status.ReadFault (λ done. done) (λ is. inr none)
+    (λ of_input. c.alone.1)
 session_finishes told_in told_out old new sink sink' (Err faults.WriteFault) c none =
-    not_done (told_in.faults old.source.now) (told_in.faults new.source.now) told_out sink sink' status.WriteFault (λ done. done)
+    not_done (told_in.faults old.source.now) (told_in.faults new.source.now) told_out sink sink' status.WriteFault (λ done. done) (λ other. other)
 session_finishes told_in told_out old new sink sink' (Err faults.InputTooLong) c none =
-    not_done (told_in.faults old.source.now) (told_in.faults new.source.now) told_out sink sink' status.InputTooLong (λ done. done)
+    cut_short (told_in.faults old.source.now) (told_in.faults new.source.now) told_out sink sink' status.InputTooLong (λ done. done)
+    (λ is. absurd cc) (λ of_input. c.alone.1.1)
 session_finishes told_in told_out old new sink sink' (Err faults.Memory) c none =
-    not_done (told_in.faults old.source.now) (told_in.faults new.source.now) told_out sink sink' status.Memory (λ done. done)
+    not_done (told_in.faults old.source.now) (told_in.faults new.source.now) told_out sink sink' status.Memory (λ done. done) (λ other. other)
+
+-- one whose replies were dropped, where it ended by a fault
+dropped_undone : (fault : SessionFault) → IsDone (status_for {A = Tally} (Err fault)) → ⊥
+dropped_undone faults.ReadFault done = done
+dropped_undone faults.WriteFault done = done
+dropped_undone faults.InputTooLong done = done
+dropped_undone faults.Memory done = done
+
+pub dropped_finishes : {K : Type 0} (reads reads' : ℕ) (told : ToldBySink K) (output : K) (fault : SessionFault)
+    → Finishes reads reads' told output output (status_for {A = Tally} (Err fault))
+dropped_finishes reads reads' told output fault =
+    cut_short reads reads' told output output (status_for {A = Tally} (Err fault)) (dropped_undone fault) (λ is. inl refl) (λ of_input. refl)
 
 pub session_wants : {S K : Type 0} (told_in : ToldBySource S) (told_out : ToldBySink K) (old new : Lines S) (sink sink' : K)
     (r : Result Tally SessionFault) → HasSessionCause told_in told_out old new sink sink' r → HasWanted told_out sink sink' (status_for r)

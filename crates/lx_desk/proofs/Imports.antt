@@ -12,7 +12,7 @@ pub use Rattle.lx_desk.specs.Crew.{TakesNoneOrWants, TellsOperators, WantsCrew, 
 pub use Rattle.lx_desk.specs.Endings.{AnswersWords, at_once, EndsJob, EndsScript, HasCauseOf, HasEnded, HasEndedBy, HasPlayed, is_live}
 pub use Rattle.lx_desk.specs.Endings.{WritesWhole}
 pub use Rattle.lx_desk.specs.Faults.{status_for}
-pub use Rattle.lx_desk.specs.Finished.{Finishes, HasWanted, IsDone, WantsMemory}
+pub use Rattle.lx_desk.specs.Finished.{Finishes, HasWanted, IsDone, IsOfInput, WantsMemory}
 pub use Rattle.lx_desk.specs.Generator.{after_cue, after_setting, after_turn, chan_text, drawn_cue, drawn_cue_text, made_show, set_text, setting_from}
 pub use Rattle.lx_desk.specs.Generator.{turn_from, turn_text}
 pub use Rattle.lx_desk.specs.Live.{AmpleMemory, any_memory, ArePlayed, AreServed, DecidesInOrder, HasFailedOutlet, HasLiveCause, HasLived, HasPlayedLive, HaveGot, HaveVersions}
@@ -43,6 +43,7 @@ pub use Rattle.lx_session.specs.Listening.{HasDone}
 pub use Rattle.lx_session.specs.ScriptAnswer.{AnsweredPrefix, AnsweredTaken, AnsweredWhole, ScriptAnswered}
 pub use Rattle.lx_session.specs.SessionOutcome.{HasSessionCause, KeepsLimit}
 pub use Rattle.lx_session.specs.Spared.{ByMemory, HasStood, spared}
+pub use Rattle.lx_session.specs.Waits.{HandsOnReplies}
 pub use Rattle.lx_session.specs.declared.fault.SessionFault.{SessionFault}
 pub use Rattle.lx_session.specs.declared.tally.Tally.{Tally}
 pub use Rattle.lx_spec.specs.CheckOutput.{check_text}

@@ -1,7 +1,7 @@
 -- What the status of a live run says of its output and of its outlets.
 use Rattle.lx_desk.proofs.Imports.{◌≡◌, ◌≢◌, inl, inr, ℕ, zero, suc, ◌<◌, ◌≤◌, Bool, true, false, ◌||◌, Option, Some, None, Result}
 use Rattle.lx_desk.proofs.Imports.{Ok, Err, IfSome, List, [], ◌∷◌, ◌++◌, length, take, drop, slice_get, refl, sym, ap, ◌∙◌, subst, arith}
-use Rattle.lx_desk.proofs.Imports.{append-nil, take_all, ◌+◌, OnOk, INPUT_BYTES, list_any, same_Some, SinkFault, Lines, Command, lines_of, Show, opened}
+use Rattle.lx_desk.proofs.Imports.{append-nil, take_all, ◌+◌, HandsOnReplies, INPUT_BYTES, list_any, same_Some, SinkFault, Lines, Command, lines_of, Show, opened}
 use Rattle.lx_desk.proofs.Imports.{Kept, Answering, Session, begin_at, after_each, answered_lines, Allows, bytes_wanted, DeskState, begun, desk_answering}
 use Rattle.lx_desk.proofs.Imports.{StandsFor, SessionFault, Tally, HasDone, AnsweredWhole, AnsweredPrefix, AnsweredTaken, ScriptAnswered, KeepsLimit}
 use Rattle.lx_desk.proofs.Imports.{HasSessionCause, IsFull, Status, status_for, HasCauseOf, live_session, LiveAllows, HaveVersions, PlaysScript, HaveGot}
@@ -18,6 +18,7 @@ use Rattle.lx_workers.specs.Engines.{engine_answering, leaves_room}
 use Rattle.lx_workers.specs.LiveOutcome.{AreDelivered}
 use Rattle.lx_desk.specs.declared.desk.Status.TheVariants as status
 use Rattle.lx_desk.proofs.Finishing.{all_done, rose_since, session_finishes, session_wanted}
+use Rattle.lx_desk.proofs.Statuses.{as_live_cause, has_cause}
 use Rattle.lx_desk.proofs.AnyFailures.{alike}
 use Rattle.lx_desk.proofs.Inputs.{whole_front, both_known}
 
@@ -304,7 +305,7 @@ module _ {K : Type 0} (ample : AmpleMemory) (outlet_told : ToldBySink K) (show :
       → TellsRun session results n s
       → HasAnswered ample.edits show published unsent console before bytes unread left held held' session
       → KeepsLimit before bytes session → HasSessionCause told_in told_out old new output output' session
-      → OnOk session (told_out.back output' ≡ [])
+      → HandsOnReplies session (told_out.back output')
       → DecidesInOrder s (told_in.faults old.source.now) (told_in.faults new.source.now) told_out output output' outlets (used' ++ rest)
       (λ Told. PlaysToEnd ample Told outlet_told show universes (lines_of bytes) held held' outlets (used' ++ rest)
       × (before + length (bytes_wanted bytes) ≤ INPUT_BYTES))
@@ -339,7 +340,7 @@ module _ {K : Type 0} (ample : AmpleMemory) (outlet_told : ToldBySink K) (show :
       → TellsRun session results n s
       → IfSome o (λ bytes. HasAnswered ample.edits show published unsent console before bytes unread left held held' session)
       → IfSome o (λ bytes. KeepsLimit before bytes session) → HasSessionCause told_in told_out old new output output' session
-      → OnOk session (told_out.back output' ≡ [])
+      → HandsOnReplies session (told_out.back output')
       → IfSome o (λ bytes. DecidesInOrder s (told_in.faults old.source.now) (told_in.faults new.source.now) told_out output output' outlets
       (used' ++ rest) (λ Told. PlaysToEnd ample Told outlet_told show universes (lines_of bytes) held held' outlets (used' ++ rest)
       × (before + length (bytes_wanted bytes) ≤ INPUT_BYTES)))
@@ -350,7 +351,7 @@ module _ {K : Type 0} (ample : AmpleMemory) (outlet_told : ToldBySink K) (show :
 -- a live run whose session had no fault is done where it tells none of the outlets
 pub run_finishes : {S O : Type 0} (told_in : ToldBySource S) (told_out : ToldBySink O) (old new : Lines S) (output output' : O)
     (session : Result Tally SessionFault) (results : List (Option SinkFault)) (n : ℕ) (s : Status) → TellsRun session results n s
-    → HasSessionCause told_in told_out old new output output' session → OnOk session (told_out.back output' ≡ [])
+    → HasSessionCause told_in told_out old new output output' session → HandsOnReplies session (told_out.back output')
     → Finishes (told_in.faults old.source.now) (told_in.faults new.source.now) told_out output output' s
 run_finishes told_in told_out old new output output' (Ok tally) results n s tells c none =
     all_done (told_in.faults old.source.now) (told_in.faults new.source.now) told_out output output' s c.kept.0 c.kept.1 c.kept.2 none
@@ -359,6 +360,9 @@ run_finishes told_in told_out old new output output' (Err fault) results n s tel
     (session_finishes told_in told_out old new output output' (Err fault) c none)
 
 -- where memory was wanted at the opening, nothing was read
+pub same_reads : {S : Type 0} (told : ToldBySource S) (old new : Lines S) → new ≡ old → told.faults new.source.now ≡ told.faults old.source.now
+same_reads {S = S} told old new same = ap (λ (l : Lines S). told.faults l.source.now) same
+
 pub none_played : {K : Type 0} (ample : AmpleMemory) (told : ToldBySink K) (show : Show) (universes before : ℕ)
     (o left held held' : Option (List ℕ)) (outlets outlets' : List (Option K)) → held' ≡ held → outlets' ≡ outlets
     → IfSome o (λ bytes. HasPlayedLive ample status.Memory told show universes before bytes left held held' outlets outlets')
@@ -406,10 +410,9 @@ session_cause : {S O K : Type 0} (told_in : ToldBySource S) (told_out : ToldBySi
     (outlets outlets' : List (Option K)) (fault : SessionFault) → HasSessionCause {T = Tally} told_in told_out old new output output' (Err fault)
     → HasLiveCause told (status_for {A = Tally} (Err fault)) (told_in.faults old.source.now) (told_in.faults new.source.now) (told_out.faults output)
     (told_out.faults output') outlets outlets'
-session_cause told_in told_out told old new output output' outlets outlets' faults.ReadFault c = c.failed
-session_cause told_in told_out told old new output output' outlets outlets' faults.WriteFault c = inl c.failed
-session_cause told_in told_out told old new output output' outlets outlets' faults.InputTooLong c = tt
-session_cause told_in told_out told old new output output' outlets outlets' faults.Memory c = tt
+session_cause told_in told_out told old new output output' outlets outlets' fault c =
+    as_live_cause told (status_for {A = Tally} (Err fault)) (told_in.faults old.source.now) (told_in.faults new.source.now)
+    (told_out.faults output) (told_out.faults output') outlets outlets' (has_cause told_in told_out old new output output' (Err fault) c)
 
 -- each fault of the outside has its cause
 pub live_cause : {S O K : Type 0} (told_in : ToldBySource S) (told_out : ToldBySink O) (told : ToldBySink K)
@@ -424,9 +427,9 @@ live_cause told_in told_out told old new output output' show universes outlets u
     (Ok tally) status.Ok is count most full d tells c = tt
 live_cause told_in told_out told old new output output' show universes outlets used used' rest results published n
     (Ok tally) status.WriteFault is count most full d tells c =
-    inr (failed_at told show universes outlets used used' rest results published tells.0 is count most full d tells.1)
+    (inr (failed_at told show universes outlets used used' rest results published tells.0 is count most full d tells.1), c.kept.0)
 live_cause told_in told_out told old new output output' show universes outlets used used' rest results published n
-    (Ok tally) status.Memory is count most full d tells c = tt
+    (Ok tally) status.Memory is count most full d tells c = c.kept.0
 live_cause told_in told_out told old new output output' show universes outlets used used' rest results published n
     (Ok tally) status.ShowRefused is count most full d tells c = tt
 live_cause told_in told_out told old new output output' show universes outlets used used' rest results published n
@@ -434,7 +437,7 @@ live_cause told_in told_out told old new output output' show universes outlets u
 live_cause told_in told_out told old new output output' show universes outlets used used' rest results published n
     (Ok tally) status.ReadFault is count most full d tells c = absurd tells
 live_cause told_in told_out told old new output output' show universes outlets used used' rest results published n
-    (Ok tally) status.InputTooLong is count most full d tells c = tt
+    (Ok tally) status.InputTooLong is count most full d tells c = absurd tells
 live_cause told_in told_out told old new output output' show universes outlets used used' rest results published n
     (Ok tally) status.Live is count most full d tells c = tt
 live_cause told_in told_out told old new output output' show universes outlets used used' rest results published n

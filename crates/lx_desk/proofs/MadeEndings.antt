@@ -106,27 +106,16 @@ fault_told ample o a cues d taken sessions.WriteFault limit = nothing_told ample
 fault_told ample o a cues d taken sessions.InputTooLong limit = if_known o _ _ limit (λ x long. (refl, long))
 fault_told ample o a cues d taken sessions.Memory limit = nothing_told ample o a cues d
 
--- a report that was told, or that was not for a write fault or lack of memory
-pub told_cause : (s : Status) (reads reads' writes writes' : ℕ) → (s ≡ status.Ok) ⊎ ((s ≡ status.WriteFault) ⊎ (s ≡ status.Memory))
-    → (s ≡ status.WriteFault → Rose writes writes') → HasCauseOf s reads reads' writes writes'
-told_cause s reads reads' writes writes' kinds write = elim kinds [
-  | inl ok ↦ subst (λ x. HasCauseOf x reads reads' writes writes') (sym ok) tt
-  | inr fault ↦ elim fault [
-    | inl failed ↦ subst (λ x. HasCauseOf x reads reads' writes writes') (sym failed) (write failed)
-    | inr memory ↦ subst (λ x. HasCauseOf x reads reads' writes writes') (sym memory) tt
-  ]
-]
-
 -- a source that never fails
 pub no_read_fault : (s : Status) (reads reads' writes writes' n : ℕ) → reads ≡ 0 → reads' ≡ 0 → HasCauseOf s reads reads' writes writes'
     → HasCauseOf s n n writes writes'
 no_read_fault status.Ok reads reads' writes writes' n none none' c = tt
 no_read_fault status.ShowRefused reads reads' writes writes' n none none' c = tt
 no_read_fault status.Usage reads reads' writes writes' n none none' c = tt
-no_read_fault status.ReadFault reads reads' writes writes' n none none' c = absurd (omega (arith, none, none', c))
-no_read_fault status.WriteFault reads reads' writes writes' n none none' c = c
-no_read_fault status.Memory reads reads' writes writes' n none none' c = tt
-no_read_fault status.InputTooLong reads reads' writes writes' n none none' c = tt
+no_read_fault status.ReadFault reads reads' writes writes' n none none' c = absurd (let rose : Rose reads reads' = c.0 in omega (arith, none, none', rose))
+no_read_fault status.WriteFault reads reads' writes writes' n none none' c = (c.0, refl)
+no_read_fault status.Memory reads reads' writes writes' n none none' c = refl
+no_read_fault status.InputTooLong reads reads' writes writes' n none none' c = (refl, c.1)
 no_read_fault status.Live reads reads' writes writes' n none none' c = tt
 
 -- ---- the job

@@ -1,5 +1,5 @@
 -- A script that was played, from what its session came to.
-use Rattle.lx_desk.proofs.Imports.{◌≡◌, ℕ, Result, Ok, Err, OnOk, Option, IfSome, List, [], refl, sym, subst, arith, inl, Lines, bytes_taken}
+use Rattle.lx_desk.proofs.Imports.{◌≡◌, ℕ, Result, Ok, Err, HandsOnReplies, Option, IfSome, List, refl, sym, subst, arith, inl, Lines, bytes_taken}
 use Rattle.lx_desk.proofs.Imports.{source_faults, source_left, unread, lines_of, Answering, SessionFault, Tally, HasSessionCause, KeepsLimit, AnsweredPrefix, AnsweredWhole}
 use Rattle.lx_desk.proofs.Imports.{AnsweredTaken, ScriptAnswered, front_of_whole, first_of_whole, Status, status_for, AnswersInFront, AnswersScript, AnswersTaken, HasPlayed}
 use Rattle.lx_desk.proofs.Imports.{Plays, ToldBySink, ToldBySource, ◌≤◌, Bool, false, Appends, AppendsFront, Session, Rose, ByMemory, HasStood}
@@ -95,7 +95,7 @@ module _ (by : Answering (List ℕ)) (lawful : IsLawful by) (Stands : by.State �
       → ByMemory before after (λ ample. IfSome (unread told_in old) (λ bytes. ScriptAnswered (spared ample by) Stands state (bytes_taken old) bytes
       (unread told_in new) (source_left told_in new) (told_out.holds output) (told_out.holds output') r))
       → IfSome (unread told_in old) (λ bytes. KeepsLimit (bytes_taken old) bytes r)
-      → HasSessionCause told_in told_out old new output output' r → OnOk r (told_out.back output' ≡ [])
+      → HasSessionCause told_in told_out old new output output' r → HandsOnReplies r (told_out.back output')
       → Plays told_in told_out first after by state old new output output' s
   session_plays told_in told_out first before after old new output output' r s is opened held outcome limit cause none =
       subst (λ t. Plays told_in told_out first after by state old new output output' t) (sym is) (record {
@@ -122,8 +122,8 @@ nothing_plays by state told_in told_out before after lines output held rose = re
   ended = λ ample stood. nothing_answered ample by state (unread told_in lines) (told_out.holds output);
   front = nothing_answered false by state (unread told_in lines) (told_out.holds output);
   later = omega arith;
-  cause = tt;
-  finished = not_done (source_faults told_in lines) (source_faults told_in lines) told_out output output status.Memory (λ done. done);
+  cause = refl;
+  finished = not_done (source_faults told_in lines) (source_faults told_in lines) told_out output output status.Memory (λ done. done) (λ other. other);
   memory = λ is. inl refl;
   wanted = λ is. inl rose;
   refused_later = held;

@@ -1,6 +1,11 @@
--- What the status of a session says of its end and its cause.
-use Rattle.lx_desk.proofs.Imports.{Result, Ok, Err, Lines, SessionFault, Tally, HasSessionCause, status_for, EndsScript, HasCauseOf, ToldBySink, ToldBySource}
+-- What the status of a job says of its end and its cause.
+use Rattle.lx_desk.proofs.Imports.{◌≡◌, ◌≢◌, ◌⊎◌, inl, inr, refl, sym, ap, ◌∙◌, subst, arith, ℕ, Option, List, Result, Ok, Err, Lines, SessionFault}
+use Rattle.lx_desk.proofs.Imports.{Tally, HasSessionCause, Status, status_for, EndsScript, HasCauseOf, HasLiveCause, ToldBySink, ToldBySource, Rose}
+use Rattle.lx_desk.proofs.Imports.{ShowFault, RefusedBy}
+use Rattle.lx_reader.specs.declared.fault.ShowFault.TheVariants as shows
 use Rattle.lx_session.specs.declared.fault.SessionFault.TheVariants as faults
+use Rattle.lx_desk.specs.declared.desk.Status.TheVariants as status
+use Rattle.lx_desk.proofs.Inputs.{kept_is}
 
 pub ends_script : (r : Result Tally SessionFault) → EndsScript (status_for r)
 ends_script (Ok tally) = tt
@@ -13,7 +18,81 @@ pub has_cause : {S K : Type 0} (told_in : ToldBySource S) (told_out : ToldBySink
     → HasSessionCause told_in told_out old new sink sink' r
     → HasCauseOf (status_for r) (told_in.faults old.source.now) (told_in.faults new.source.now) (told_out.faults sink) (told_out.faults sink')
 has_cause told_in told_out old new sink sink' (Ok tally) c = tt
-has_cause told_in told_out old new sink sink' (Err faults.ReadFault) c = c.failed
-has_cause told_in told_out old new sink sink' (Err faults.WriteFault) c = c.failed
-has_cause told_in told_out old new sink sink' (Err faults.InputTooLong) c = tt
-has_cause told_in told_out old new sink sink' (Err faults.Memory) c = tt
+has_cause told_in told_out old new sink sink' (Err faults.ReadFault) c = (c.failed, c.alone.0)
+has_cause told_in told_out old new sink sink' (Err faults.WriteFault) c = (c.failed, c.alone)
+has_cause told_in told_out old new sink sink' (Err faults.InputTooLong) c = (c.alone.0, c.alone.1.0)
+has_cause told_in told_out old new sink sink' (Err faults.Memory) c = c.alone
+
+-- a session whose sink never fails, beside an output that isn't written
+pub dropped_cause : {S K : Type 0} (told_in : ToldBySource S) (told_out : ToldBySink K) (old new : Lines S) (sink sink' : K)
+    (fault : SessionFault) (writes : ℕ) → told_out.faults sink' ≡ 0
+    → HasSessionCause {T = Tally} told_in told_out old new sink sink' (Err fault)
+    → HasCauseOf (status_for {A = Tally} (Err fault)) (told_in.faults old.source.now) (told_in.faults new.source.now) writes writes
+dropped_cause told_in told_out old new sink sink' faults.ReadFault writes none c = (c.failed, refl)
+dropped_cause told_in told_out old new sink sink' faults.WriteFault writes none c = absurd (omega (arith, none, c.failed))
+dropped_cause told_in told_out old new sink sink' faults.InputTooLong writes none c = (c.alone.0, refl)
+dropped_cause told_in told_out old new sink sink' faults.Memory writes none c = c.alone
+
+-- a text that was written, wholly or not, where no read failed
+pub told_cause : (s : Status) (reads reads' writes writes' : ℕ) → reads' ≡ reads
+    → (s ≡ status.Ok) ⊎ ((s ≡ status.WriteFault) ⊎ (s ≡ status.Memory)) → (s ≡ status.WriteFault → Rose writes writes')
+    → HasCauseOf s reads reads' writes writes'
+told_cause s reads reads' writes writes' kept kinds write = elim kinds [
+  | inl ok ↦ subst (λ x. HasCauseOf x reads reads' writes writes') (sym ok) tt
+  | inr fault ↦ elim fault [
+    | inl failed ↦ subst (λ x. HasCauseOf x reads reads' writes writes') (sym failed) (write failed, kept)
+    | inr memory ↦ subst (λ x. HasCauseOf x reads reads' writes writes') (sym memory) kept
+  ]
+]
+
+-- and the line of a show that is refused
+line_cause : (s : Status) (reads reads' writes writes' : ℕ) → reads' ≡ reads
+    → (s ≡ status.ShowRefused) ⊎ ((s ≡ status.WriteFault) ⊎ (s ≡ status.Memory)) → (s ≡ status.WriteFault → Rose writes writes')
+    → HasCauseOf s reads reads' writes writes'
+line_cause s reads reads' writes writes' kept kinds write = elim kinds [
+  | inl refused ↦ subst (λ x. HasCauseOf x reads reads' writes writes') (sym refused) tt
+  | inr fault ↦ elim fault [
+    | inl failed ↦ subst (λ x. HasCauseOf x reads reads' writes writes') (sym failed) (write failed, kept)
+    | inr memory ↦ subst (λ x. HasCauseOf x reads reads' writes writes') (sym memory) kept
+  ]
+]
+
+-- a show that isn't read
+pub refusal_cause : {K : Type 0} (told : ToldBySink K) (h h' : Option (List ℕ)) (fault : ShowFault) (s : Status) (reads reads' : ℕ)
+    (output output' : K) → RefusedBy h h' fault s → (fault ≡ shows.ReadFault → Rose reads reads')
+    → (fault ≢ shows.ReadFault → reads' ≡ reads) → (s ≡ status.WriteFault → Rose (told.faults output) (told.faults output'))
+    → ((s ≡ status.ReadFault) ⊎ (s ≡ status.InputTooLong) → output' ≡ output)
+    → HasCauseOf s reads reads' (told.faults output) (told.faults output')
+refusal_cause told h h' fault s reads reads' output output' by read kept write untouched = elim by [
+  | inl text ↦ line_cause s reads reads' (told.faults output) (told.faults output')
+      (kept (λ is. let odd : shows.Text text.text ≡ shows.ReadFault = sym text.told ∙ is in cc)) text.kinds write
+  | inr other ↦ kept_is fault s (λ f t. (f ≡ shows.ReadFault → Rose reads reads') → (f ≢ shows.ReadFault → reads' ≡ reads)
+      → ((t ≡ status.ReadFault) ⊎ (t ≡ status.InputTooLong) → output' ≡ output)
+      → HasCauseOf t reads reads' (told.faults output) (told.faults output')) other.is
+      (λ rose same alone. (rose refl, ap told.faults (alone (inl refl))))
+      (λ rose same alone. (same (λ odd. cc), ap told.faults (alone (inr refl))))
+      (λ rose same alone. same (λ odd. cc)) read kept untouched
+]
+
+-- behind reads of which none failed
+pub cause_behind : (s : Status) (reads reads' reads'' writes writes' : ℕ) → reads' ≡ reads → HasCauseOf s reads' reads'' writes writes'
+    → HasCauseOf s reads reads'' writes writes'
+cause_behind s reads reads' reads'' writes writes' same c = subst (λ (n : ℕ). HasCauseOf s n reads'' writes writes') same c
+
+-- what has its cause as another job has it as a live run
+pub as_live_cause : {K : Type 0} (told : ToldBySink K) (s : Status) (reads reads' writes writes' : ℕ) (outlets outlets' : List (Option K))
+    → HasCauseOf s reads reads' writes writes' → HasLiveCause told s reads reads' writes writes' outlets outlets'
+as_live_cause told status.ReadFault reads reads' writes writes' outlets outlets' c = c
+as_live_cause told status.WriteFault reads reads' writes writes' outlets outlets' c = (inl c.0, c.1)
+as_live_cause told status.InputTooLong reads reads' writes writes' outlets outlets' c = c
+as_live_cause told status.Memory reads reads' writes writes' outlets outlets' c = c
+as_live_cause told status.Ok reads reads' writes writes' outlets outlets' c = tt
+as_live_cause told status.ShowRefused reads reads' writes writes' outlets outlets' c = tt
+as_live_cause told status.Usage reads reads' writes writes' outlets outlets' c = tt
+as_live_cause told status.Live reads reads' writes writes' outlets outlets' c = tt
+
+pub live_behind : {K : Type 0} (told : ToldBySink K) (s : Status) (reads reads' reads'' writes writes' : ℕ) (outlets outlets' : List (Option K))
+    → reads' ≡ reads → HasLiveCause told s reads' reads'' writes writes' outlets outlets'
+    → HasLiveCause told s reads reads'' writes writes' outlets outlets'
+live_behind told s reads reads' reads'' writes writes' outlets outlets' same c =
+    subst (λ (n : ℕ). HasLiveCause told s n reads'' writes writes' outlets outlets') same c

@@ -144,14 +144,17 @@ pub record OperatorFailed {S : Type 0} (told : ToldBySource S) (count : ℕ) (op
   pub after : slice_get operators' place ≡ Some (Some new)
   pub rose : Rose (told.faults start) (told.faults new)
 
--- ReadFault comes only where the count of failed reads of the input or of an operator in use rose, and WriteFault only where the
--- output's of failed writes did.
+-- ReadFault comes only where the count of failed reads of the input rose, and then no operator's source was read; or that of an operator in use
+-- did, and none of the input. WriteFault comes only where the output's count of failed writes rose. With it, with InputTooLong and with
+-- Memory no read of the input failed.
 abbrev pub HasCrewCause : {S : Type 0} → ToldBySource S → Status → (reads reads' writes writes' : ℕ) → ℕ
     → (operators operators' : List (Option S))
     → Type 0
 HasCrewCause told status.ReadFault reads reads' writes writes' count operators operators' =
-    Rose reads reads' ⊎ OperatorFailed told count operators operators'
-HasCrewCause told status.WriteFault reads reads' writes writes' count operators operators' = Rose writes writes'
+    (Rose reads reads' × (operators' ≡ operators)) ⊎ ((reads' ≡ reads) × OperatorFailed told count operators operators')
+HasCrewCause told status.WriteFault reads reads' writes writes' count operators operators' = Rose writes writes' × (reads' ≡ reads)
+HasCrewCause told status.InputTooLong reads reads' writes writes' count operators operators' = reads' ≡ reads
+HasCrewCause told status.Memory reads reads' writes writes' count operators operators' = reads' ≡ reads
 HasCrewCause told other reads reads' writes writes' count operators operators' = Unit {0}
 
 -- what the status tells: the fault of the output, else that of the lowest operator that has one

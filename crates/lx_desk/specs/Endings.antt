@@ -67,10 +67,13 @@ HasEndedBy ample status.Live job bytes left held held' = at_once (Some job) ≡ 
 abbrev pub HasEnded : Status → Job → List ℕ → Option (List ℕ) → Option (List ℕ) → Option (List ℕ) → Type 0
 HasEnded s job bytes left held held' = HasEndedBy false s job bytes left held held'
 
--- A fault of the outside comes only where its count rose.
+-- A fault of the outside comes only where its count rose. One of the input comes only where no write of the output failed, and one of the
+-- output only where no read did.
 abbrev pub HasCauseOf : Status → (reads reads' writes writes' : ℕ) → Type 0
-HasCauseOf status.ReadFault reads reads' writes writes' = Rose reads reads'
-HasCauseOf status.WriteFault reads reads' writes writes' = Rose writes writes'
+HasCauseOf status.ReadFault reads reads' writes writes' = Rose reads reads' × (writes' ≡ writes)
+HasCauseOf status.WriteFault reads reads' writes writes' = Rose writes writes' × (reads' ≡ reads)
+HasCauseOf status.InputTooLong reads reads' writes writes' = (reads' ≡ reads) × (writes' ≡ writes)
+HasCauseOf status.Memory reads reads' writes writes' = reads' ≡ reads
 HasCauseOf other reads reads' writes writes' = Unit {0}
 
 -- The same of a script that is answered from a state on, before which this many bytes of the input were taken.

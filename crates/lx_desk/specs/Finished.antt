@@ -11,12 +11,21 @@ IsDone status.Ok = Unit {0}
 IsDone status.ShowRefused = Unit {0}
 IsDone other = ⊥
 
--- A job that was done passed over no fault, and all that it wrote is handed on.
+-- the input couldn't be read on
+abbrev pub IsOfInput : Status → Type 0
+IsOfInput status.ReadFault = Unit {0}
+IsOfInput status.InputTooLong = Unit {0}
+IsOfInput other = ⊥
+
+-- A job that was done passed over no fault, and all that it wrote is handed on. Where a read failed, nothing was written or all of it is
+-- handed on; and a fault of the input comes only where the output wasn't out of memory.
 pub record Finishes {K : Type 0} (reads reads' : ℕ) (told : ToldBySink K) (output output' : K) (s : Status) : Type 0 where
   pub reads_kept : IsDone s → reads' ≡ reads
   pub writes_kept : IsDone s → told.faults output' ≡ told.faults output
   pub wants_kept : IsDone s → told.wants output' ≡ told.wants output
   pub handed_on : IsDone s → told.back output' ≡ []
+  pub waited : s ≡ status.ReadFault → (output' ≡ output) ⊎ (told.back output' ≡ [])
+  pub wants_alone : IsOfInput s → told.wants output' ≡ told.wants output
 
 -- Out of memory: the heap refused some, or the output itself was.
 abbrev pub WantsMemory : {K : Type 0} → ToldBySink K → (refusals refusals' : ℕ) → (output output' : K) → Status → Type 0

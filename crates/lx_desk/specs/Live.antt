@@ -270,12 +270,15 @@ abbrev pub WantsLive : {O K : Type 0} → ToldBySink O → ToldBySink K → (ref
 WantsLive told_out told refusals refusals' writers writers' output output' outlets outlets' s =
     s ≡ status.Memory → LiveRunsShort told_out told refusals refusals' writers writers' output output' outlets outlets'
 
--- ReadFault comes only where the count of failed reads rose, and WriteFault only where the output's or an outlet's of failed writes did.
+-- ReadFault comes only where the count of failed reads rose, and WriteFault only where the output's or an outlet's of failed writes did. A
+-- fault of the input comes only where no write of the output failed, and any other only where no read did.
 abbrev pub HasLiveCause : {K : Type 0} → ToldBySink K → Status → (reads reads' writes writes' : ℕ) → (outlets outlets' : List (Option K))
     → Type 0
-HasLiveCause told status.ReadFault reads reads' writes writes' outlets outlets' = Rose reads reads'
-HasLiveCause told status.WriteFault reads reads' writes writes' outlets outlets' = Rose writes writes' ⊎ OutletFailed told outlets
-    outlets'
+HasLiveCause told status.ReadFault reads reads' writes writes' outlets outlets' = Rose reads reads' × (writes' ≡ writes)
+HasLiveCause told status.WriteFault reads reads' writes writes' outlets outlets' =
+    (Rose writes writes' ⊎ OutletFailed told outlets outlets') × (reads' ≡ reads)
+HasLiveCause told status.InputTooLong reads reads' writes writes' outlets outlets' = (reads' ≡ reads) × (writes' ≡ writes)
+HasLiveCause told status.Memory reads reads' writes writes' outlets outlets' = reads' ≡ reads
 HasLiveCause told other reads reads' writes writes' outlets outlets' = Unit {0}
 
 -- a write failed in an outlet

@@ -32,7 +32,8 @@ use std::thread::Threads;
 /// A fault of an operator costs no line of another. The fault of the output decides the status first, and then that of the
 /// lowest operator that had one; where that is told, all that was written is handed on. The answer is never Live. With Ok and ShowRefused
 /// no read of the input and no write failed, and all that was written is handed on. Memory is told only before anything is written and
-/// any operator's source read, or where the output itself is out of memory.
+/// any operator's source read, or where the output itself is out of memory. A fault of the input or of an operator is told only where the
+/// output had none, and one of an operator or of the output only where the input had none.
 ///
 /// Its memory is that of two heaps: the first's for the show and its edits, and the queue's for what the lines go through.
 /// Where the heap refused nothing no edit was refused for want of memory. Memory is told only where the heap refused some, or the

@@ -45,7 +45,8 @@ pub enum Status {
 /// `make` reads nothing. Out of memory refuses nothing but records, and edits that may take memory.
 ///
 /// With Ok and ShowRefused no read and no write failed, and all that was written is handed on. Memory is told only before
-/// anything is written, or where the output itself is out of memory.
+/// anything is written, or where the output itself is out of memory. A fault of the input is told only where the output had none, and one
+/// of the output only where the input had none. Where a read failed, all replies before it are handed on.
 ///
 /// All its memory is that of the heap. Where the heap refused nothing, what is written is that of a script of which no edit and no record
 /// was refused for want of memory. Memory is told only where the heap refused some, or where the output itself is out of memory.

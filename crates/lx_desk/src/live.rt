@@ -35,7 +35,8 @@ use std::thread::Threads;
 ///
 /// The fault of the session decides the status first, then a write that failed in an outlet, and then that memory was short. An outlet
 /// that fails is ended, and no other. The answer is never Live. With Ok no read and no write failed, in no outlet in use either, and all
-/// that was written is handed on.
+/// that was written is handed on. A fault of the input is told only where the output had none, and any other only where the input had
+/// none. Where a read failed, all replies before it are handed on.
 ///
 /// Its memory is that of two heaps: the first's for the show and its edits, and the writer's for what is published.
 /// Where the heap refused nothing no edit was refused for want of memory, as long as fewer than 2^62 commands were accepted. Where the

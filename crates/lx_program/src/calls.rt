@@ -43,8 +43,9 @@ pub fn desk<S: Source, K: Sink>(
     ensures prefix { OfJob (map string_bytes words.now) (S.left input.old)
         (λ job bytes. WritesPrefix job bytes (K.holds output.old) (K.holds output.new)) }
 
-    // ReadFault and WriteFault have their causes. With Ok and ShowRefused no fault was passed over, and all that was written is
-    // handed on. Memory is told only before anything is written, or where the output itself is out of memory; and never where a
+    // ReadFault and WriteFault have their causes. A fault of the input comes only where the output had none, and one of the output only
+    // where the input had none. With Ok and ShowRefused no fault was passed over, and all that was written is handed on; with ReadFault all
+    // replies before it are. Memory is told only before anything is written, or where the output itself is out of memory; and never where a
     // word begins with a dash.
     ensures cause { HasCauseOf result (S.faults input.old) (S.faults input.new) (K.faults output.old) (K.faults output.new) }
     ensures finished { Finishes (S.faults input.old) (S.faults input.new) K.Sink output.old output.new result }
@@ -65,6 +66,9 @@ pub fn desk<S: Source, K: Sink>(
 
 /// Does the job that the words name as `desk` does, with the memory of these heaps. The words are read by the second: where it refuses
 /// nothing is read or written, and the first isn't asked.
+///
+/// A fault of the input is told only where the output had none, and one of the output only where the input had none. Where a read failed,
+/// all replies before it are handed on.
 pub fn desk_in<H: Heap, S: Source, K: Sink>(
     heap: &mut H,
     words_heap: &mut WordsHeap,

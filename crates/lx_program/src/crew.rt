@@ -54,9 +54,10 @@ pub fn desk_crew<R: Threads + Wait + Sync, I: Source, S: Source + Send + Drop, K
     ensures prefix { OfCrew (job_of (map string_bytes words.now)) (I.left input.old)
         (λ count form bytes. WritesCrewFront S.Source count operators.old (K.holds output.old) (K.holds output.new) (reads form bytes)) }
 
-    // ReadFault and WriteFault have their causes. With Ok and ShowRefused no fault of the input or the output was passed over, and all
-    // that was written is handed on; so it is where an operator's fault is told. Memory is told only before anything is written and any
-    // operator's source read, or where the output itself is out of memory.
+    // ReadFault and WriteFault have their causes. A fault of the input or of an operator comes only where the output had none, and one of an
+    // operator or of the output only where the input had none. With Ok and ShowRefused no fault of the input or the output was passed over,
+    // and all that was written is handed on; so it is where an operator's fault is told. Memory is told only before anything is written and
+    // any operator's source read, or where the output itself is out of memory.
     ensures finished { Finishes (I.faults input.old) (I.faults input.new) K.Sink output.old output.new result }
     ensures memory { HasWanted K.Sink output.old output.new result }
     ensures unread { TakesNoneOrWants K.Sink output.old output.new operators.old operators.new result }
@@ -78,6 +79,9 @@ pub fn desk_crew<R: Threads + Wait + Sync, I: Source, S: Source + Send + Drop, K
 
 /// Does the job of the words as `desk_crew` does, with the memory of these heaps. The words are read by the last: where it refuses
 /// nothing is read or written, and the others aren't asked.
+///
+/// A fault of the input or of an operator is told only where the output had none, and one of an operator or of the output only where the
+/// input had none.
 pub fn desk_crew_in<
     R: Threads + Wait + Sync,
     H: Heap + Send,

@@ -57,8 +57,9 @@ pub fn desk_live<
         (λ universes form bytes. HasLived any_memory result K.Sink universes form bytes (S.left input.new) (O.holds output.old)
         (O.holds output.new) outlets.old outlets.new) }
 
-    // ReadFault and WriteFault have their causes, and faults are told in their order. With Ok and ShowRefused no fault was passed over,
-    // and all that was written on the output is handed on.
+    // ReadFault and WriteFault have their causes, and faults are told in their order. A fault of the input comes only where the output had
+    // none, and any other only where the input had none. With Ok and ShowRefused no fault was passed over, and all that was written on the
+    // output is handed on; with ReadFault all replies before it are.
     ensures cause { HasLiveCause K.Sink result (S.faults input.old) (S.faults input.new) (O.faults output.old) (O.faults output.new)
         outlets.old outlets.new }
     ensures order { OfRun (job_of (map string_bytes words.now)) (S.left input.old)
@@ -83,6 +84,9 @@ pub fn desk_live<
 
 /// Does the job of the words as `desk_live` does, with the memory of these heaps. The words are read by the last: where it refuses
 /// nothing is read or written, and the others aren't asked.
+///
+/// A fault of the input is told only where the output had none, and any other only where the input had none. Where a read failed, all
+/// replies before it are handed on.
 pub fn desk_live_in<
     R: Threads + Wait + Sync,
     H: Heap + Send,

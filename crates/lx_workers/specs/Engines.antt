@@ -1,5 +1,5 @@
 -- The engine's commands: those that are published, and then those that aren't yet.
-use Rattle.std.specs.Prelude.{◌≡◌, ◌≤◌, ◌^◌, ℕ, List, [], ◌++◌, length, Bool, true, ◌&&◌, ltb, Option, Result, IfSome, OnOk}
+use Rattle.std.specs.Prelude.{◌≡◌, ◌≤◌, ◌^◌, ℕ, List, [], ◌++◌, length, Bool, true, ◌&&◌, ltb, Option, Result, IfSome}
 use Rattle.std.specs.Prelude.{IsSomeAnd}
 use mathlib.Core.Path.{sym, ap, ◌∙◌}
 use mathlib.Core.List.{append-nil, append_assoc}
@@ -18,6 +18,7 @@ use Rattle.lx_session.specs.Listening.{HasDone}
 use Rattle.lx_session.specs.ScriptAnswer.{ScriptAnswered}
 use Rattle.lx_session.specs.SessionOutcome.{HasSessionCause, KeepsLimit}
 use Rattle.lx_session.specs.Spared.{HasStood, spared}
+use Rattle.lx_session.specs.Waits.{HandsOnReplies}
 use Rattle.lx_gate.specs.Desks.{IsInStep}
 use Rattle.lx_spec.specs.declared.Command.{Command}
 use Rattle.lx_gate.specs.Gates.{Published}
@@ -71,7 +72,7 @@ pub record HasRun {S K : Type 0} (told_in : ToldBySource S) (told_out : ToldBySi
       (source_left told_in lines') (told_out.holds output) (told_out.holds output') result)
   pub limit : IfSome (unread told_in lines) (λ bytes. KeepsLimit (bytes_taken lines) bytes result)
   pub cause : HasSessionCause told_in told_out lines lines' output output' result
-  pub handed_on : OnOk result (told_out.back output' ≡ [])
+  pub handed_on : HandsOnReplies result (told_out.back output')
 
 -- the same of a gate that is there, with nothing unsent before
 abbrev pub HasRunFrom : {S K : Type 0} → ToldBySource S → ToldBySink K → Show

@@ -1,5 +1,5 @@
 //! A live run: the engine, and a worker for each outlet beside it.
-ghost use Rattle.std.specs.Prelude.{◌≡◌, ◌+◌, ◌-◌, ◌<◌, ◌≤◌, ◌⊎◌, [], length, IsSome, IsSomeAnd, IfOk, IfSome, OnOk, OnErr, vec_len};
+ghost use Rattle.std.specs.Prelude.{◌≡◌, ◌+◌, ◌-◌, ◌<◌, ◌≤◌, ◌⊎◌, [], length, IsSome, IsSomeAnd, IfOk, IfSome, OnErr, vec_len};
 ghost use Rattle.std.specs.Prelude.{vec_capacity, ℕ, Bool, true, false, Some, None, slice_get, slice_set, List};
 ghost use Rattle.std.specs.List.{AllZip};
 ghost use Rattle.lx_base.specs.declared.TheConstants.{INPUT_BYTES};
@@ -9,6 +9,7 @@ ghost use Rattle.lx_spec.specs.Desk.{opened};
 ghost use Rattle.lx_console.specs.ConsoleMeaning.{StandsFor};
 ghost use Rattle.lx_session.specs.SessionOutcome.{HasSessionCause, KeepsLimit};
 ghost use Rattle.lx_session.specs.Spared.{HasStood};
+ghost use Rattle.lx_session.specs.Waits.{HandsOnReplies};
 ghost use Rattle.lx_gate.specs.Gates.{Published};
 ghost use Rattle.lx_gate.specs.Desks.{IsInStep};
 ghost use Rattle.lx_base.specs.Places.{EachAt};
@@ -52,7 +53,7 @@ pub struct LiveOutcome {
 /// on the output as in a session, and each accepted command is published at once. Beside it a worker for each outlet, of
 /// universe 1 at place 0 and so on, writes the lines of newer and newer versions of its universe's frame. Each is that of commands
 /// that are published by the end, and the last one of an outlet that had no fault is that of all of them. Each line is handed on at
-/// once, and all replies are where the session ended Ok.
+/// once, and all replies are where the session ended Ok or a read failed. A fault of the input is told only where the output had none.
 ///
 /// As long as fewer than 2^62 commands were accepted each command is admitted, so that `Memory` refuses only an edit that may take
 /// memory and that the desk accepts. A fault of an outlet ends that outlet alone: it isn't written again. `AllocError` comes only before
@@ -85,7 +86,7 @@ pub fn play<
         output.new outlets.old outlets.new console.new p.session p.outlets p.unsent) }
     ensures limit { IfOk result (λ p. IfSome (unread S.Source lines.old) (λ bytes. KeepsLimit (bytes_taken lines.old) bytes p.session)) }
     ensures cause { IfOk result (λ p. HasSessionCause S.Source O.Sink lines.old lines.new output.old output.new p.session) }
-    ensures handed_on { IfOk result (λ p. OnOk p.session (O.back output.new ≡ [])) }
+    ensures handed_on { IfOk result (λ p. HandsOnReplies p.session (O.back output.new)) }
 {
     let mut heap = SystemHeap::new(alloc);
     let mut writers = WriterHeap::new(alloc);
@@ -137,7 +138,7 @@ pub fn play_in<
     ensures sent { HasStood writers.old writers.new → IfOk result (λ p. p.unsent ≡ 0) }
     ensures limit { IfOk result (λ p. IfSome (unread S.Source lines.old) (λ bytes. KeepsLimit (bytes_taken lines.old) bytes p.session)) }
     ensures cause { IfOk result (λ p. HasSessionCause S.Source O.Sink lines.old lines.new output.old output.new p.session) }
-    ensures handed_on { IfOk result (λ p. OnOk p.session (O.back output.new ≡ [])) }
+    ensures handed_on { IfOk result (λ p. HandsOnReplies p.session (O.back output.new)) }
     ensures later { H.refusals heap.old ≤ H.refusals heap.new }
     ensures writers_later { writers.old ≤ writers.new }
 {
@@ -192,7 +193,7 @@ fn play_over<
     ensures sent { HasStood writers.old writers.new → IfOk result (λ p. p.unsent ≡ 0) }
     ensures limit { IfOk result (λ p. IfSome (unread S.Source lines.old) (λ bytes. KeepsLimit (bytes_taken lines.old) bytes p.session)) }
     ensures cause { IfOk result (λ p. HasSessionCause S.Source O.Sink lines.old lines.new output.old output.new p.session) }
-    ensures handed_on { IfOk result (λ p. OnOk p.session (O.back output.new ≡ [])) }
+    ensures handed_on { IfOk result (λ p. HandsOnReplies p.session (O.back output.new)) }
     ensures later { H.refusals heap.old ≤ H.refusals heap.new }
     ensures writers_later { writers.old ≤ writers.new }
 {

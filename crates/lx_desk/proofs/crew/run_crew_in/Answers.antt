@@ -1,8 +1,9 @@
-use Rattle.lx_desk.proofs.Imports.{inl, false, true, arith, stood_since, refl, IfSome, sym, ap, ◌∙◌, subst, HasCrewEnded, IsDone, Finishes}
+use Rattle.lx_desk.proofs.Imports.{inl, false, true, arith, stood_since, refl, IfSome, sym, ap, ◌∙◌, subst, HasCrewEnded, HasCrewCause, IsDone, Finishes, Err}
 use Rattle.lx_desk.proofs.Finishing.{after_reads, refusal_reads, refusal_wanted}
 use Rattle.lx_desk.proofs.CrewRuns.{as_crew, crew_since, kept_places}
 use Rattle.lx_desk.proofs.LiveEnds.{refused_words, refused_live}
-use Rattle.lx_desk.proofs.CrewEnds.{crew_ended, crew_front, refused_ended, refused_front, served_cause}
+use Rattle.lx_desk.proofs.CrewEnds.{crew_ended, crew_front, refused_cause, refused_ended, refused_front, served_cause}
+use Rattle.lx_desk.proofs.Statuses.{cause_behind, refusal_cause}
 use Rattle.lx_desk.proofs.crew.run_crew_in.Goals as goal
 
 pub returns-in-Ok-clause-ended : goal.returns-in-Ok-clause-ended
@@ -15,7 +16,10 @@ returns-in-Ok-clause-prefix g c =
     crew_front c.args.form c.args.count _ _ _ _ c.in-Ok.loaded _ _ _ _ c.new-lines.ensures.unread c.in-Ok.ensures.answer c.serve.ensures.prefix
 
 pub returns-in-Ok-clause-cause : goal.returns-in-Ok-clause-cause
-returns-in-Ok-clause-cause g c = served_cause _ c.serve.result _ _ _ _ _ _ _ c.serve.ensures.read c.serve.ensures.write
+returns-in-Ok-clause-cause g c =
+    let same = c.input-1.given.1 (sym (c.in-Ok.ensures.same_reference ∙ c.new-lines.ensures.same_reference)) in
+    let kept = c.in-Ok.ensures.kept (λ odd. cc) ∙ ap g.I.Source.faults c.new-lines.ensures.source in
+    served_cause _ c.serve.result _ _ _ _ _ _ _ (ap g.I.Source.faults same ∙ kept) c.serve.ensures.read c.serve.ensures.write
 
 pub returns-in-Err-clause-words : goal.returns-in-Err-clause-words
 returns-in-Err-clause-words g c = (
@@ -87,3 +91,15 @@ returns-in-Err-clause-unread g c = λ is. inl refl
 
 pub returns-in-Err-clause-handed_on : goal.returns-in-Err-clause-handed_on
 returns-in-Err-clause-handed_on g c = λ which. inl (c.refuse.ensures.untouched which)
+
+pub returns-in-Err-clause-cause : goal.returns-in-Err-clause-cause
+returns-in-Err-clause-cause g c =
+    let same = c.input-1.given.1 (sym (c.in-Err.ensures.same_reference ∙ c.new-lines.ensures.same_reference)) in
+    subst (λ v. HasCrewCause g.S.Source c.refuse.result (g.I.Source.faults c.args.input.now) (g.I.Source.faults v)
+    (g.K.Sink.faults c.args.output.now) (g.K.Sink.faults c.refuse.new.output) c.args.count c.args.operators.now c.args.operators.now)
+    (sym same)
+    (refused_cause g.S.Source c.refuse.result _ _ _ _ c.args.count c.args.operators.now
+    (cause_behind c.refuse.result _ _ _ _ _ (ap g.I.Source.faults c.new-lines.ensures.source)
+    (refusal_cause g.K.Sink _ _ c.in-Err.fault c.refuse.result _ _ c.args.output.now c.refuse.new.output c.refuse.ensures.refused
+    (λ is. c.in-Err.ensures.read (ap Err is)) (λ other. c.in-Err.ensures.kept (λ is. other (cc))) c.refuse.ensures.write
+    c.refuse.ensures.untouched)))

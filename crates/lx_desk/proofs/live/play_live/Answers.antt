@@ -1,7 +1,7 @@
 use Rattle.lx_desk.proofs.Imports.{rules, ◌≡◌, inl, inr, false, ◌+◌, ◌++◌, ◌≤◌, IfSome, length, sym, ap, subst, arith, unread, Kept, Show, IsFull}
 use Rattle.lx_desk.proofs.Imports.{INPUT_BYTES, lines_of, bytes_wanted, HasPlayedLive, DecidesInOrder, PlaysToEnd, stood_since}
 use Rattle.lx_desk.proofs.LiveRuns.{full_take, are_played, has_played_live, live_cause, none_ordered, none_played, not_usage, in_order, live_wanted, run_finishes}
-use Rattle.lx_desk.proofs.LiveRuns.{not_live, outlets_finish}
+use Rattle.lx_desk.proofs.LiveRuns.{not_live, outlets_finish, same_reads}
 use Rattle.lx_desk.proofs.Finishing.{rose_since}
 use Rattle.lx_desk.proofs.live.play_live.Goals as goal
 
@@ -103,3 +103,6 @@ returns-in_default-clause-finish g c = λ ok place start within at. absurd cc
 
 pub returns-clause-finish : goal.returns-clause-finish
 returns-clause-finish g c = λ ok place start within at. absurd cc
+
+pub returns-clause-cause : goal.returns-clause-cause
+returns-clause-cause g c = same_reads g.S.Source _ _ c.in-Err.ensures.err.1.0

@@ -1,6 +1,7 @@
-use Rattle.lx_desk.proofs.Imports.{inl, refl, false, true, arith, stood_since, IfSome, sym, ap, ◌∙◌, subst, HasLived, DecidesInOrder, LivesToEnd, IsDone, Finishes}
+use Rattle.lx_desk.proofs.Imports.{inl, refl, false, true, arith, stood_since, IfSome, sym, ap, ◌∙◌, subst, HasLived, DecidesInOrder, HasLiveCause, LivesToEnd, IsDone, Finishes, Err}
 use Rattle.lx_desk.proofs.Finishing.{after_reads, refusal_reads, refusal_wanted}
 use Rattle.lx_desk.proofs.LiveRuns.{as_live, live_since}
+use Rattle.lx_desk.proofs.Statuses.{as_live_cause, cause_behind, live_behind, refusal_cause}
 use Rattle.lx_desk.proofs.Inputs.{refusal_isnt_ok}
 use Rattle.lx_desk.proofs.LiveEnds.{live_ended, live_order, all_refused, refused_lived, refused_words, refused_live}
 use Rattle.lx_desk.proofs.live.run_live_in.Goals as goal
@@ -87,3 +88,23 @@ returns-in-Err-clause-wanted g c =
 
 pub returns-in-Ok-clause-later : goal.returns-in-Ok-clause-later
 returns-in-Ok-clause-later g c = omega (arith, c.in-Ok.ensures.cause.later, c.play_live.ensures.heap_later)
+
+pub returns-in-Ok-clause-cause : goal.returns-in-Ok-clause-cause
+returns-in-Ok-clause-cause g c =
+    let same = c.input-1.given.1 (sym (c.play_live.ensures.same_source ∙ c.in-Ok.ensures.same_reference
+    ∙ c.new-lines.ensures.same_reference)) in
+    let kept = c.in-Ok.ensures.kept (λ odd. cc) ∙ ap g.S.Source.faults c.new-lines.ensures.source in
+    subst (λ v. HasLiveCause g.K.Sink c.play_live.result (g.S.Source.faults c.args.input.now) (g.S.Source.faults v)
+    (g.O.Sink.faults c.args.output.now) (g.O.Sink.faults c.play_live.new.output) c.args.outlets.now c.play_live.new.outlets) (sym same)
+    (live_behind g.K.Sink c.play_live.result _ _ _ _ _ c.args.outlets.now c.play_live.new.outlets kept c.play_live.ensures.cause)
+
+pub returns-in-Err-clause-cause : goal.returns-in-Err-clause-cause
+returns-in-Err-clause-cause g c =
+    let same = c.in-Err.input-in-Err-1-own.given.1 (sym (c.in-Err.ensures.same_reference ∙ c.new-lines.ensures.same_reference)) in
+    subst (λ v. HasLiveCause g.K.Sink c.refuse.result (g.S.Source.faults c.args.input.now) (g.S.Source.faults v)
+    (g.O.Sink.faults c.args.output.now) (g.O.Sink.faults c.refuse.new.output) c.args.outlets.now c.args.outlets.now) (sym same)
+    (as_live_cause g.K.Sink c.refuse.result _ _ _ _ c.args.outlets.now c.args.outlets.now
+    (cause_behind c.refuse.result _ _ _ _ _ (ap g.S.Source.faults c.new-lines.ensures.source)
+    (refusal_cause g.O.Sink _ _ c.in-Err.fault c.refuse.result _ _ c.args.output.now c.refuse.new.output c.refuse.ensures.refused
+    (λ is. c.in-Err.ensures.read (ap Err is)) (λ other. c.in-Err.ensures.kept (λ is. other (cc))) c.refuse.ensures.write
+    c.refuse.ensures.untouched)))

@@ -1,7 +1,8 @@
-use Rattle.lx_desk.proofs.Imports.{◌∙◌, ap, refl, Some, ℕ, List, false, arith, stood_since}
+use Rattle.lx_desk.proofs.Imports.{◌∙◌, ap, refl, Some, ℕ, List, false, arith, stood_since, Err}
 use Rattle.lx_io.specs.Memory.{PlainBytes}
 use Rattle.lx_desk.proofs.Endings.{script_job}
 use Rattle.lx_desk.proofs.Finishing.{refusal_wanted, wanted_since}
+use Rattle.lx_desk.proofs.Statuses.{refusal_cause}
 use Rattle.lx_desk.proofs.MadeEndings.{made_ended, made_front, made_refused, made_refused_front, no_read_fault}
 use Rattle.lx_desk.proofs.make.make_of.Goals as goal
 
@@ -52,3 +53,9 @@ pub returns-clause-wanted : goal.returns-clause-wanted
 returns-clause-wanted g c =
     refusal_wanted g.K.Sink (g.H.Heap.refusals c.args.heap.now) (g.H.Heap.refusals c.read_show_in.new.heap) c.args.output.now
     c.refuse.new.output c.in-Err.fault c.refuse.result c.in-Err.ensures.cause.failed c.refuse.ensures.wanted
+
+pub returns-clause-cause : goal.returns-clause-cause
+returns-clause-cause g c = λ reads.
+    no_read_fault c.refuse.result 0 0 _ _ reads refl refl
+    (refusal_cause g.K.Sink _ _ c.in-Err.fault c.refuse.result 0 0 c.args.output.now c.refuse.new.output c.refuse.ensures.refused
+    (λ is. c.in-Err.ensures.read (ap Err is)) (λ other. refl) c.refuse.ensures.write c.refuse.ensures.untouched)

@@ -1,7 +1,8 @@
-use Rattle.lx_desk.proofs.Imports.{◌∙◌, sym, subst, refl, inl, arith, false, Status, IfSome, unread, opened, stood_since}
+use Rattle.lx_desk.proofs.Imports.{◌∙◌, sym, subst, refl, inl, arith, false, Status, IfSome, unread, opened, stood_since, HasCauseOf, Finishes}
 use Rattle.lx_desk.specs.Made.{HasTold}
-use Rattle.lx_desk.proofs.Finishing.{wanted_since, never_wanted}
-use Rattle.lx_desk.proofs.MadeEndings.{nothing_told, fault_told, session_told, session_front_told, told_cause}
+use Rattle.lx_desk.proofs.Finishing.{dropped_finishes, wanted_since, never_wanted}
+use Rattle.lx_desk.proofs.Statuses.{dropped_cause, told_cause}
+use Rattle.lx_desk.proofs.MadeEndings.{nothing_told, fault_told, session_told, session_front_told}
 use Rattle.lx_desk.proofs.make.tell_session.Goals as goal
 
 pub returns-in_default-clause-ended : goal.returns-in_default-clause-ended
@@ -30,7 +31,8 @@ returns-in-Ok-session_in-clause-front g c =
     (c.in-Ok-session_in.ensures.outcome false (λ no. absurd cc) (opened c.args.show) c.in-Ok.ensures.stands)
 
 pub returns-in-Ok-session_in-clause-cause : goal.returns-in-Ok-session_in-clause-cause
-returns-in-Ok-session_in-clause-cause g c = told_cause c.tell.result _ _ _ _ c.tell.ensures.kinds c.tell.ensures.write
+returns-in-Ok-session_in-clause-cause g c =
+    told_cause c.tell.result _ _ _ _ c.in-Ok-session_in.ensures.cause.kept.0 c.tell.ensures.kinds c.tell.ensures.write
 
 pub returns-in-Ok-session_in-clause-wanted : goal.returns-in-Ok-session_in-clause-wanted
 returns-in-Ok-session_in-clause-wanted g c =
@@ -56,3 +58,15 @@ returns-clause-wanted g c = λ is. absurd (never_wanted _ _ _ _ _ _ c.in-Err.fau
 
 pub returns-clause-later : goal.returns-clause-later
 returns-clause-later g c = omega (arith, c.in-Ok.ensures.cause.later, c.in-Err.ensures.later)
+
+pub returns-clause-cause : goal.returns-clause-cause
+returns-clause-cause g c =
+    subst (λ (s : Status). HasCauseOf s (g.S.Source.faults c.args.lines.now.source.now) (g.S.Source.faults c.session_in.new.lines.source.now)
+    (g.K.Sink.faults c.args.output.now) (g.K.Sink.faults c.args.output.now)) (sym c.status_of.ensures)
+    (dropped_cause _ _ _ _ _ _ c.in-Err.fault (g.K.Sink.faults c.args.output.now) refl c.in-Err.ensures.cause)
+
+pub returns-clause-finished : goal.returns-clause-finished
+returns-clause-finished g c =
+    subst (λ (s : Status). Finishes (g.S.Source.faults c.args.lines.now.source.now) (g.S.Source.faults c.session_in.new.lines.source.now)
+    g.K.Sink c.args.output.now c.args.output.now s) (sym c.status_of.ensures)
+    (dropped_finishes _ _ g.K.Sink c.args.output.now c.in-Err.fault)

@@ -1,7 +1,8 @@
-use Rattle.lx_desk.proofs.Imports.{sym, ap, ◌∙◌, subst, IfSome, Script, HasEndedBy, IsDone, Finishes, false, arith, stood_since}
+use Rattle.lx_desk.proofs.Imports.{sym, ap, ◌∙◌, subst, IfSome, Script, HasEndedBy, HasCauseOf, IsDone, Finishes, false, arith, stood_since, Err}
 use Rattle.lx_desk.proofs.Inputs.{session_front, refusal_front, script_over}
 use Rattle.lx_desk.proofs.Endings.{script_job, script_ended, refusal_ends, refusal_ended}
 use Rattle.lx_desk.proofs.Finishing.{after_reads, refusal_reads, refusal_wanted, wanted_since}
+use Rattle.lx_desk.proofs.Statuses.{cause_behind, refusal_cause}
 use Rattle.lx_desk.proofs.script.read_and_play.Goals as goal
 
 pub returns-in-Ok-clause-works : goal.returns-in-Ok-clause-works
@@ -69,3 +70,22 @@ pub returns-in-Err-clause-wanted : goal.returns-in-Err-clause-wanted
 returns-in-Err-clause-wanted g c =
     refusal_wanted g.K.Sink (g.H.Heap.refusals c.args.heap.now) (g.H.Heap.refusals c.read_show_in.new.heap) c.args.output.now
     c.refuse.new.output c.in-Err.fault c.refuse.result c.in-Err.ensures.cause.failed c.refuse.ensures.wanted
+
+pub returns-in-Ok-clause-cause : goal.returns-in-Ok-clause-cause
+returns-in-Ok-clause-cause g c =
+    let same = c.input-1.given.1 (sym (c.play_script.ensures.same_source ∙ c.in-Ok.ensures.same_reference
+    ∙ c.new-lines.ensures.same_reference)) in
+    let kept = c.in-Ok.ensures.kept (λ odd. cc) ∙ ap g.S.Source.faults c.new-lines.ensures.source in
+    subst (λ v. HasCauseOf c.play_script.result (g.S.Source.faults c.args.input.now) (g.S.Source.faults v)
+    (g.K.Sink.faults c.args.output.now) (g.K.Sink.faults c.play_script.new.output)) (sym same)
+    (cause_behind c.play_script.result _ _ _ _ _ kept c.play_script.ensures.plays.cause)
+
+pub returns-in-Err-clause-cause : goal.returns-in-Err-clause-cause
+returns-in-Err-clause-cause g c =
+    let same = c.in-Err.input-in-Err-1-own.given.1 (sym (c.in-Err.ensures.same_reference ∙ c.new-lines.ensures.same_reference)) in
+    subst (λ v. HasCauseOf c.refuse.result (g.S.Source.faults c.args.input.now) (g.S.Source.faults v)
+    (g.K.Sink.faults c.args.output.now) (g.K.Sink.faults c.refuse.new.output)) (sym same)
+    (cause_behind c.refuse.result _ _ _ _ _ (ap g.S.Source.faults c.new-lines.ensures.source)
+    (refusal_cause g.K.Sink _ _ c.in-Err.fault c.refuse.result _ _ c.args.output.now c.refuse.new.output c.refuse.ensures.refused
+    (λ is. c.in-Err.ensures.read (ap Err is)) (λ other. c.in-Err.ensures.kept (λ is. other (cc))) c.refuse.ensures.write
+    c.refuse.ensures.untouched))
