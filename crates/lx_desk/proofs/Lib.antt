@@ -13,5 +13,4 @@ mod CrewRuns
 pub mod CrewEnds
 pub mod EmptyPrefixes
 mod MadeInputs
-mod ToldFaults
 mod Imports
