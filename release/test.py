@@ -21,7 +21,7 @@ import time
 TOP = os.path.dirname(os.path.dirname(os.path.abspath(__file__)))
 SECONDS = 60
 # The system's commands that the scripts may use.
-COMMANDS = "bash cat chmod cmp cp cut dirname env find grep mkdir mktemp mv readlink rm sed sh sha256sum sort stat tail uname xargs".split()
+COMMANDS = "bash cat chmod cmp cp cut dirname env find grep mkdir mktemp mv nproc readlink rm sed sh sha256sum sort stat tail uname xargs".split()
 
 PROGRAM = """#!/bin/sh
 # build 1
@@ -36,7 +36,7 @@ kit=$(dirname "$(readlink -f "$0")")
 case $1 in
     version) cat "$kit/line" ;;
     doc) echo "$kit/START-HERE.md" ;;
-    all) echo "proved in $PWD" >> "$kit/log" ;;
+    lib) echo "proved ${PWD##*/}" >> "$kit/log" ;;
     run) mkdir -p out && [ -f "$kit/program" ] && cp "$kit/program" out/cuedesk && chmod 755 out/cuedesk && echo built >> "$kit/log" ;;
 esac
 """
@@ -48,12 +48,13 @@ echo once >> "{log}"
 exec {command} "$@"
 """
 SOURCES = {
-    "crates.txt": "low:\ncuedesk: low\n",
+    "crates.txt": "# Each crate.\ncuedesk: middle low\nhost staticlib: low\nmiddle: low kit\nlow:\n",
     "HANDLES": "Handles allowed: none.\n",
     "crates/low/src/lib.rt": "//! Low.\n",
     "crates/low/specs/Lib.antt": "pub mod Lows\n",
     "crates/low/specs/Lows.antt": "-- lows\n",
     "crates/low/proofs/deep/er/Answers.antt": "-- answers\n",
+    "crates/middle/src/lib.rt": "//! Middle.\n",
     "crates/cuedesk/src/main.rt": "//! The program.\n",
 }
 OTHERS = {
@@ -182,7 +183,12 @@ def a_release_runs_at_once(tree):
 
 def no_release_builds(tree):
     wrong = looked(tree, BUILT, "building, since there is no release")
-    return wrong + looked(tree, BUILT) + ([] if tree.log() == 1 else [f"{tree.log()} builds"])
+    # Each library is proved once, lowest first, and then the program is built.
+    done = text_of(os.path.join(tree.kit, "log")).splitlines()
+    wrong += [] if done == ["proved low", "proved middle", "built"] else [f"done in turn: {done}"]
+    wrong += looked(tree, BUILT) + ([] if tree.log() == 1 else [f"{tree.log()} builds"])
+    said = tree.run("cuedesk", "render", env={"CUEDESK_BUILD": "1"})[2].splitlines()[1:]
+    return wrong + ([] if said == [f"cuedesk: {it}" for it in ("1 of 3: low", "2 of 3: middle", "3 of 3: cuedesk", "built")] else [f"said {said}"])
 
 
 def no_release_and_no_toolchain(tree):
