@@ -122,9 +122,11 @@ class Tree:
 
     @functools.cache
     def names_in(self, place: str) -> set[str]:
-        """The names in a file, which may stand without its ending, or in all files of a folder; without a place in the whole repository."""
+        """The names in a file, which may stand without its ending, or in all files of a folder; without a place in the whole repository.
+        A crate's wrong bodies that the gate leaves out are its own too."""
         folder = place and place.rstrip("/") + "/"
-        inside = [path for path in self.paths if path in (place, place + ".antt") or path.startswith(folder)]
+        edits = re.sub("^crates/", ".ci/edits/", folder)
+        inside = [path for path in self.paths if path in (place, place + ".antt") or path.startswith((folder, edits))]
         return set().union(*map(self.names_of, inside))
 
 
