@@ -39,6 +39,31 @@ are_intact() {
     (cd "$top/release" && set -o pipefail && grep -E "^[0-9a-f]{64}  $1\$" MANIFEST | sha256sum --check --status 2>/dev/null)
 }
 
+# The libraries that each crate names, by crates.txt, into `below`, which the caller declares.
+read_crates() {
+    local name libraries
+    while IFS=: read -r name libraries; do
+        [[ $name != [a-z]* ]] || below[${name%% *}]=$libraries
+    done <"$top/crates.txt"
+}
+
+# A crate that stands in `below` behind those that it stands on, each once.
+in_turn() {
+    local it libraries=${below[$1]}
+    unset "below[$1]"
+    for it in $libraries; do
+        [ -z "${below[$it]+listed}" ] || in_turn "$it"
+    done
+    echo "$1"
+}
+
+# The crates that a crate stands on, lowest first, and itself last.
+crates_in_turn() {
+    local -A below=([$1]='')
+    read_crates
+    in_turn "$1"
+}
+
 # What a release is made of, a line each: where it is built, where it is released, how it is stripped. The first is the program; the others
 # are the library for hosts and its header, where the library is built, and not before the gate began that ran last.
 parts() {
