@@ -13,4 +13,5 @@ mod CrewRuns
 pub mod CrewEnds
 pub mod EmptyPrefixes
 mod MadeInputs
+mod ToldFaults
 mod Imports

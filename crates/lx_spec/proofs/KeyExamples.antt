@@ -45,7 +45,14 @@ greatest_of_sources = refl
 
 -- 512 runs may be live and no more, until they are settled
 full_playback : played (codes "CUE 1" ∷ codes "UP 40:00" ∷ codes "CHAN 1@FL" ∷ [])
-    (replicate 512 (codes "goto 1") ++ codes "goto 1" ∷ codes "settle" ∷ codes "goto 1" ∷ codes "frame" ∷ [])
-    ≡ text (replicate 512 (codes "ok") ++ codes "refused PlaybackFull" ∷ codes "ok" ∷ codes "ok" ∷ codes "frame 0 1 1=255" ∷ [])
+    (replicate 512 (codes "goto 1") ++ codes "goto 1" ∷ codes "settle" ∷ codes "goto 1" ∷ [])
+    ≡ text (replicate 512 (codes "ok") ++ codes "refused PlaybackFull" ∷ codes "ok" ∷ codes "ok" ∷ [])
 unfolding digits
 full_playback = refl
+
+-- what is settled is at its levels at once, and stays there under a run of the same cue
+settled : played (codes "CUE 1" ∷ codes "UP 40:00" ∷ codes "CHAN 1@FL" ∷ [])
+    (codes "goto 1" ∷ codes "settle" ∷ codes "goto 1" ∷ codes "frame" ∷ [])
+    ≡ text (codes "ok" ∷ codes "ok" ∷ codes "ok" ∷ codes "frame 0 1 1=255" ∷ [])
+unfolding digits
+settled = refl
