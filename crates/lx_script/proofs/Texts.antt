@@ -5,6 +5,7 @@ use Rattle.lx_script.proofs.Imports.{Bool, true, false, suc, ◌==◌, flat_map,
 use Rattle.lx_script.proofs.Imports.{cells_from, cells, frame_text}
 use Rattle.std.proofs.Math.Seq.{take-add, take-append-add}
 use Rattle.std.proofs.lemmas.Grind.{flat_map-append}
+use Rattle.lx_spec.proofs.Comparisons.{eq_other}
 use Rattle.lx_spec.specs.ShowText.{spaced}
 
 -- words, each behind a space
@@ -37,6 +38,10 @@ cells_from-append number (x ∷ xs) ys =
     ∙ sym (append_assoc (cell_text number x) (cells_from (number + 1) xs) (cells_from (number + 1 + length xs) ys))
     ∙ ap (λ text. text ++ cells_from (number + 1 + length xs) ys) (sym (cells_from-first number x xs))
     ∙ ap (λ n. cells_from number (x ∷ xs) ++ cells_from n ys) same
+
+-- the cell of a level that isn't 0, as it is put
+pub cell_of : (number level : ℕ) → (level ≡ 0 → ⊥) → 32 ∷ ((decimal number ++ 61 ∷ []) ++ decimal level) ≡ cell_text number level
+cell_of number level some = rw (eq_other level 0 some, append_assoc) refl
 
 -- the cells before a place, and those from it on
 pub cells_split : (levels : List ℕ) (from : ℕ) → from ≤ length levels

@@ -1,6 +1,6 @@
 -- The index of an entry in a sorted list.
 use Rattle.lx_show.proofs.Imports.{◌≡◌, ℕ, suc, ◌+◌, ◌-◌, ◌<◌, ◌≤◌, Bool, true, false, List, [], ◌∷◌, ◌++◌, length, get_or}
-use Rattle.lx_show.proofs.Imports.{set, take, drop, Some, refl, ◌∙◌, sym, ap, subst, inl, inr, arith, add-one, add-zero, Option, insert, remove, nat_le}
+use Rattle.lx_show.proofs.Imports.{set, take, drop, Some, None, refl, ◌∙◌, sym, ap, subst, inl, inr, arith, add-one, add-zero, Option, insert, remove, nat_le}
 use Rattle.lx_show.proofs.Imports.{nat_lt, option_to_list, slice_get, option_map_or, AllByRecursion, cases_lt, cases_order, false≢true, set_split}
 use Rattle.lx_show.proofs.Imports.{take-append-drop, get_or-take, get_or-drop, append-nil, length-take, length-drop, slice_get-get_or, InRange}
 use Rattle.lx_show.proofs.Imports.{IsStrictlySorted, entry_at, entries_below, entries_above, placed, taken_out, StandsAt, GoesAt, changed, eq_above, eq_below}
@@ -163,6 +163,16 @@ pub stands_entry : {A : Type 0} (key : A → ℕ) (n at : ℕ) (ys xs : List A) 
 stands_entry {A} key n at ys xs x same stands is =
     let within : at < length xs = omega (arith, ap length same, stands.within) in
     subst (λ (zs : List A). entry_at key n zs ≡ slice_get zs at) same stands.here ∙ slice_get-get_or xs at x within ∙ ap Some (sym is)
+
+-- the entry of an entry's number is what stands at its place, or nothing
+pub stood : {A : Type 0} (key : A → ℕ) (n at : ℕ) (ys xs : List A) (x y : A) → n ≡ key x → ys ≡ xs → StandsAt key n ys at → y ≡ get_or xs at y
+    → entry_at key (key x) xs ≡ Some y
+stood key n at ys xs x y is same stands here =
+    subst (λ m. entry_at key m xs ≡ Some y) is (stands_entry key n at ys xs y same stands here)
+
+pub absent : {A : Type 0} (key : A → ℕ) (n at : ℕ) (ys xs : List A) (x : A) → n ≡ key x → ys ≡ xs → GoesAt key n ys at
+    → entry_at key (key x) xs ≡ None
+absent key n at ys xs x is same goes = subst (λ m. entry_at key m xs ≡ None) is (subst (λ zs. entry_at key n zs ≡ None) same goes.absent)
 
 -- an entry changed in its place
 pub changed_there : {A : Type 0} (key : A → ℕ) (n at : ℕ) (ys xs : List A) (x : A) (change : A → A) → ys ≡ xs → StandsAt key n ys at

@@ -97,7 +97,7 @@ stretch_begins key first end (x ∷ more) is below =
       above = omega arith;
     }
 
-one_more : {A : Type 0} (xs : List A) (k : ℕ) (x : A) → k < length xs → x ≡ get_or xs k x → take (k + 1) xs ≡ take k xs ++ (x ∷ [])
+pub one_more : {A : Type 0} (xs : List A) (k : ℕ) (x : A) → k < length xs → x ≡ get_or xs k x → take (k + 1) xs ≡ take k xs ++ (x ∷ [])
 one_more xs k x within is = rw add-one (take_with xs k within)
     ∙ ap (λ o. take k xs ++ option_to_list o) (slice_get-get_or xs k x within ∙ ap Some (sym is))
 
