@@ -1,29 +1,24 @@
 -- What is answered so far, and with one more entry.
-use Rattle.lx_crew.proofs.Imports.{◌≡◌, inl, inr, ℕ, ◌+◌, Bool, false, true≢false, Option, Some, None, Result, Ok, Err, List, [], ◌∷◌}
-use Rattle.lx_crew.proofs.Imports.{◌++◌, take, drop, take-append-drop, refl, sym, ap, ◌∙◌, subst, append-nil, append_assoc, arith}
-use Rattle.lx_crew.proofs.Imports.{length-append, IfSome, is_some, Appends, Keeps, length-replicate, LINE_BYTES, SinkFault, AppendsFront}
+use Rattle.lx_crew.proofs.Imports.{◌≡◌, inl, inr, ℕ, Bool, false, true≢false, Option, Some, None, Result, Ok, Err, List, [], ◌∷◌}
+use Rattle.lx_crew.proofs.Imports.{◌++◌, refl, sym, ap, ◌∙◌, subst, append-nil, append_assoc, arith}
+use Rattle.lx_crew.proofs.Imports.{length-append, IfSome, is_some, Appends, Keeps, SinkFault, AppendsFront}
 use Rattle.lx_crew.proofs.Imports.{CrewEntry, op_text, named, after_entry, crew_answering, crew_text, Desk, Kept, line_of, Session, begin_at, AreAllowed}
-use Rattle.lx_crew.proofs.Imports.{DeskState, begun, IsAcceptedEdit, StandsFor, Tally, meaning_is, extends_line, Message, Line, LongLine, text_in, long_line}
+use Rattle.lx_crew.proofs.Imports.{DeskState, begun, IsAcceptedEdit, StandsFor, Tally, extends_line, Message, Line, LongLine, text_in, long_line}
 use Rattle.lx_crew.proofs.Imports.{named_line, entries_of, said, NamedAnswer, AnswersNamed, IsDoneWithEntries, AnsweredAll, AnsweredPart, HasAnswered}
-use Rattle.lx_crew.proofs.Imports.{ToldBySink, true, HasStood, IsAmple, MayFailUnless, spared, AppendsAtLeast, crew_session, all_but_last}
-use Rattle.lx_crew.proofs.Imports.{text_to_last_name}
+use Rattle.lx_crew.proofs.Imports.{ToldBySink, true, HasStood, MayFailUnless, spared, AppendsAtLeast, crew_session, all_but_last}
+use Rattle.lx_crew.proofs.Imports.{text_to_last_name, HasStopped, ◌⊎◌}
 use Rattle.std.specs.Result.{result_err}
 use Rattle.std.proofs.KnownBytes.{Appends-nil, Appends-trans, Appends-kept}
 use Rattle.std.proofs.lemmas.Grind.{flat_map-append}
-use Rattle.lx_io.proofs.Chain.{AppendsFront-is}
-use Rattle.lx_crew.proofs.LastEntries.{at_least_first, at_least_then, front_of, front_then, names_written, session_before, text_before}
-use Rattle.lx_session.specs.LineAnswer.{FromDesk, SparedAnswer}
-use Rattle.lx_spec.specs.declared.Line.{Line as Meant}
+use Rattle.lx_crew.proofs.Lists.{long_means}
+use Rattle.lx_crew.proofs.LastEntries.{at_least_first, at_least_then, front_more, front_of, front_then, names_written, session_before, text_before}
+use Rattle.lx_session.specs.LineAnswer.{FromDesk}
 use Rattle.lx_session.specs.LineReply.{counts_in}
 use Rattle.lx_session.specs.LineState.{meaning_of}
 use Rattle.lx_spec.specs.Session.{Answering, after_each}
 use Rattle.lx_session.proofs.EachLine.{each-append, allowed-append}
 use Rattle.lx_session.proofs.Stood.{spares}
 use Rattle.lx_crew.specs.declared.entry.LineText.{LineText}
-
--- a line that is too long is bad, whatever its text
-pub long_means : line_of long_line ≡ None
-long_means = sym (meaning_is None long_line (omega (arith, length-replicate {A = ℕ} (LINE_BYTES + 1) 0)))
 
 done_none : (ample : Bool) (d : Desk) → IsDoneWithEntries ample d [] [] (begin_at (begun d))
 done_none ample d = record { each = refl; is = refl; allows = tt }
@@ -62,161 +57,126 @@ pub answered_none : (ample : Bool) (d : Desk) (h : Option (List ℕ)) (console :
 answered_none ample d h console tally stands counts =
     record { failures = []; now = begin_at (begun d); done = done_none ample d; text = Appends-nil h; counts = sym counts; stands = stands }
 
--- The session before one more entry, and the text up to its name.
-before_of : (ample : Bool) (d : Desk) (popped : List Message) (start h : Option (List ℕ)) (console : Kept) (tally : Tally)
-    (entry : Message) (e : CrewEntry) → (a : AnsweredAll ample d popped start h console tally)
-    → entries_of entry.place entry.number entry.sent ≡ e ∷ [] → (failed : Option ℕ)
-    → crew_session d (all_but_last (said (popped ++ entry ∷ []))) (a.failures ++ failed ∷ []) ≡ a.now
-before_of ample d popped start h console tally entry e a is failed =
-    ap (λ es. crew_session d (all_but_last es) (a.failures ++ failed ∷ [])) (said_more popped entry (e ∷ []) is)
-    ∙ session_before ample d (said popped) a.failures (failed ∷ []) a.now e a.done
-
-name_of : (ample : Bool) (d : Desk) (popped : List Message) (start h : Option (List ℕ)) (console : Kept) (tally : Tally)
-    (entry : Message) (e : CrewEntry) → (a : AnsweredAll ample d popped start h console tally)
-    → entries_of entry.place entry.number entry.sent ≡ e ∷ [] → (failed : Option ℕ)
-    → text_to_last_name d (said (popped ++ entry ∷ [])) (a.failures ++ failed ∷ []) ≡ a.now.text ++ op_text e
-name_of ample d popped start h console tally entry e a is failed =
-    ap (λ es. text_to_last_name d es (a.failures ++ failed ∷ [])) (said_more popped entry (e ∷ []) is)
-    ∙ text_before ample d (said popped) a.failures (failed ∷ []) a.now e a.done
-
-earlier_of : (ample : Bool) (d : Desk) (popped : List Message) (start h h' : Option (List ℕ)) (console : Kept) (tally : Tally)
-    (entry : Message) (e : CrewEntry) → (a : AnsweredAll ample d popped start h console tally)
-    → entries_of entry.place entry.number entry.sent ≡ e ∷ [] → (failed : Option ℕ) → AppendsAtLeast start h' a.now.text
-    → AppendsAtLeast start h' (crew_text d (all_but_last (said (popped ++ entry ∷ []))) (a.failures ++ failed ∷ []))
-earlier_of ample d popped start h h' console tally entry e a is failed p =
-    subst (λ (s : Session DeskState). AppendsAtLeast start h' s.text) (sym (before_of ample d popped start h console tally entry e a is failed)) p
-
--- no attempt failed where memory was ample, and else one failed where it may
-may_fail : {K T : Type 0} (ample : Bool) (refusals refusals' : ℕ) (told : ToldBySink K) (sink sink' : K) (result : Result T SinkFault)
-    (s : Session DeskState) (meaning : Option Meant) (console : Kept) (tally : Tally) → (ample ≡ true → HasStood refusals refusals')
-    → (w : SparedAnswer (IsAmple true refusals refusals') true (λ commands. Unit {0}) told sink sink' result s meaning console tally)
-    → IfSome w.answer.failed (λ attempt. MayFailUnless ample (IsAcceptedEdit s.state.desk meaning))
-may_fail ample refusals refusals' told sink sink' result s meaning console tally stood w =
-    spares ample w.answer.failed (IsAcceptedEdit s.state.desk meaning)
-    (λ is. w.none (record { admitted = refl; stood = stood is })) w.answer.goes_on.allowed
-
--- one more line was answered
-answered_line : {K : Type 0} (ample : Bool) (refusals refusals' : ℕ) (told : ToldBySink K) (sink sink' : K) (b : Bool) (d : Desk)
-    (popped : List Message) (start : Option (List ℕ)) (console console' : Kept) (tally tally' : Tally) (entry : Message) (e : CrewEntry)
-    → (ample ≡ true → HasStood refusals refusals')
-    → (a : AnsweredAll ample d popped start (told.holds sink) console tally) → entries_of entry.place entry.number entry.sent ≡ e ∷ []
-    → NamedAnswer refusals refusals' told sink sink' (Ok b) a.now (op_text e) (line_of e.line) console' tally'
-    → AnsweredAll ample d (popped ++ entry ∷ []) start (told.holds sink') console' tally'
-answered_line ample refusals refusals' told sink sink' b d popped start console console' tally tally' entry e stood a is m =
-    let w = m.answer.answer in
-    let may = may_fail ample refusals refusals' told m.between sink' (Ok b) (named a.now e) (line_of e.line) console' tally' stood m.answer in
-    let failures = a.failures ++ w.failed ∷ [] in
-    record {
-      failures = failures;
-      now = w.next;
-      done = subst (λ es. IsDoneWithEntries ample d es failures w.next) (sym (said_more popped entry (e ∷ []) is))
-          (done_more ample d (said popped) a.failures a.now w.next e w.failed a.done w.goes_on.is may);
-      text = subst (λ (x : List ℕ). Appends start (told.holds sink') x) (sym w.text)
-          (Appends-trans start (told.holds m.between) (told.holds sink') (a.now.text ++ op_text e) w.reply
-          (Appends-trans start (told.holds sink) (told.holds m.between) a.now.text (op_text e) a.text m.named) w.puts.whole);
-      counts = w.counts;
-      stands = w.stands;
-    }
-
--- or a prefix of its reply was written
-answered_front : {K : Type 0} (ample : Bool) (refusals refusals' : ℕ) (told : ToldBySink K) (sink sink' : K) (f : SinkFault) (d : Desk)
-    (popped : List Message) (start : Option (List ℕ)) (console console' : Kept) (tally tally' : Tally) (entry : Message) (e : CrewEntry)
-    → (ample ≡ true → HasStood refusals refusals')
-    → (a : AnsweredAll ample d popped start (told.holds sink) console tally) → entries_of entry.place entry.number entry.sent ≡ e ∷ []
-    → NamedAnswer refusals refusals' told sink sink' (Err f) a.now (op_text e) (line_of e.line) console' tally'
-    → AnsweredPart ample d (popped ++ entry ∷ []) start (told.holds sink') console'
-answered_front ample refusals refusals' told sink sink' f d popped start console console' tally tally' entry e stood a is m =
-    let w = m.answer.answer in
-    let may = may_fail ample refusals refusals' told m.between sink' (Err f) (named a.now e) (line_of e.line) console' tally' stood m.answer in
-    let failures = a.failures ++ w.failed ∷ [] in
-    let done : IsDoneWithEntries ample d (said (popped ++ entry ∷ [])) failures w.next =
-    subst (λ es. IsDoneWithEntries ample d es failures w.next) (sym (said_more popped entry (e ∷ []) is))
-    (done_more ample d (said popped) a.failures a.now w.next e w.failed a.done w.goes_on.is may) in
-    let name = a.now.text ++ op_text e in
-    let named = Appends-trans start (told.holds sink) (told.holds m.between) a.now.text (op_text e) a.text m.named in
-    let whole = at_least_then start (told.holds m.between) (told.holds sink') name w.reply named w.puts.part in
-    record {
-      first = popped ++ entry ∷ [];
-      rest = [];
-      are = sym (append-nil (popped ++ entry ∷ []));
-      failures = failures;
-      allows = done.allows;
-      text = subst (λ (v : List ℕ). AppendsFront start (told.holds sink') v) (sym (ap (λ s. s.text) done.is ∙ w.text))
-          (front_then start (told.holds m.between) (told.holds sink') name w.reply named w.puts.part);
-      earlier = earlier_of ample d popped start (told.holds sink) (told.holds sink') console tally entry e a is w.failed
-          (at_least_first start (told.holds sink') a.now.text (op_text e) whole);
-      stopped = inl (
-        subst (λ (v : List ℕ). AppendsAtLeast start (told.holds sink') v)
-            (sym (name_of ample d popped start (told.holds sink) console tally entry e a is w.failed)) whole,
-        subst (λ (s : Session DeskState). StandsFor s.state.desk console') (sym done.is) w.stands,
-      );
-    }
-
--- or a prefix of its name
-answered_name : (ample : Bool) (d : Desk) (popped : List Message) (start h h' : Option (List ℕ)) (console console' : Kept) (tally : Tally)
-    (entry : Message) (e : CrewEntry) → (a : AnsweredAll ample d popped start h console tally)
-    → entries_of entry.place entry.number entry.sent ≡ e ∷ [] → AppendsFront h h' (op_text e) → StandsFor a.now.state.desk console'
-    → AnsweredPart ample d (popped ++ entry ∷ []) start h' console'
-answered_name ample d popped start h h' console console' tally entry e a is name stands =
-    let failures = a.failures ++ None ∷ [] in
-    let more = extends_line None (named a.now e) (line_of e.line) in
-    let done : IsDoneWithEntries ample d (said (popped ++ entry ∷ [])) failures (after_entry None a.now e) =
-    subst (λ es. IsDoneWithEntries ample d es failures (after_entry None a.now e)) (sym (said_more popped entry (e ∷ []) is))
-    (done_more ample d (said popped) a.failures a.now (after_entry None a.now e) e None a.done refl tt) in
-    let part = AppendsFront-is h h' (op_text e) name in
-    let front = a.now.text ++ take part.0 (op_text e) in
-    let rest = drop part.0 (op_text e) ++ more.more in
-    record {
-      first = popped ++ entry ∷ [];
-      rest = [];
-      are = sym (append-nil (popped ++ entry ∷ []));
-      failures = failures;
-      allows = done.allows;
-      text = front_of start h' front rest (crew_text d (said (popped ++ entry ∷ [])) failures)
-          (ap (λ s. s.text) done.is ∙ more.text
-          ∙ append_assoc a.now.text (op_text e) more.more
-          ∙ ap (λ v. a.now.text ++ v) (ap (λ v. v ++ more.more) (sym (take-append-drop part.0 (op_text e)))
-          ∙ append_assoc (take part.0 (op_text e)) (drop part.0 (op_text e)) more.more)
-          ∙ sym (append_assoc a.now.text (take part.0 (op_text e)) rest))
-          (Appends-trans start h h' a.now.text (take part.0 (op_text e)) a.text part.1);
-      earlier = earlier_of ample d popped start h h' console tally entry e a is None
-          (at_least_then start h h' a.now.text (op_text e) a.text name);
-      stopped = inr (
-        subst (λ (v : List ℕ). AppendsFront start h' v) (sym (name_of ample d popped start h console tally entry e a is None))
-            (front_then start h h' a.now.text (op_text e) a.text name),
-        subst (λ (s : Session DeskState). StandsFor s.state.desk console') (sym (before_of ample d popped start h console tally entry e a is None))
-            stands,
-      );
-    }
-
--- a flush leaves what is written
-answered_kept : (ample : Bool) (d : Desk) (popped : List Message) (start h h' : Option (List ℕ)) (console : Kept) (tally : Tally)
-    → AnsweredAll ample d popped start h console tally → Keeps h h' → AnsweredAll ample d popped start h' console tally
-answered_kept ample d popped start h h' console tally a kept = record {
-  failures = a.failures;
-  now = a.now;
-  done = a.done;
-  text = Appends-kept start h h' a.now.text a.text kept;
-  counts = a.counts;
-  stands = a.stands;
+-- all of what was popped is answered, up to a fault of the output
+all_part : (ample : Bool) (d : Desk) (popped : List Message) (start h : Option (List ℕ)) (console : Kept) (failures : List (Option ℕ))
+    (now : Session DeskState) → IsDoneWithEntries ample d (said popped) failures now → AppendsFront start h now.text
+    → AppendsAtLeast start h (crew_text d (all_but_last (said popped)) failures) → HasStopped d (said popped) failures start h console
+    → AnsweredPart ample d popped start h console
+all_part ample d popped start h console failures now done text earlier stopped = record {
+  first = popped;
+  rest = [];
+  are = sym (append-nil popped);
+  failures = failures;
+  allows = done.allows;
+  text = subst (λ (s : Session DeskState). AppendsFront start h s.text) (sym done.is) text;
+  earlier = earlier;
+  stopped = stopped;
 }
+
+-- One more entry.
+module _ {K : Type 0} (ample : Bool) (d : Desk) (told : ToldBySink K) (sink sink' : K) (popped : List Message) (start : Option (List ℕ))
+    (console console' : Kept) (tally tally' : Tally) (entry : Message) (e : CrewEntry) (refusals refusals' : ℕ)
+    (stood : ample ≡ true → HasStood refusals refusals') (a : AnsweredAll ample d popped start (told.holds sink) console tally)
+    (is : entries_of entry.place entry.number entry.sent ≡ e ∷ []) where
+  -- the session after it
+  done_so : (failed : Option ℕ) (next : Session DeskState) → after_entry failed a.now e ≡ next
+      → IfSome failed (λ attempt. MayFailUnless ample (IsAcceptedEdit a.now.state.desk (line_of e.line)))
+      → IsDoneWithEntries ample d (said (popped ++ entry ∷ [])) (a.failures ++ failed ∷ []) next
+  done_so failed next goes may = subst (λ es. IsDoneWithEntries ample d es (a.failures ++ failed ∷ []) next)
+      (sym (said_more popped entry (e ∷ []) is)) (done_more ample d (said popped) a.failures a.now next e failed a.done goes may)
+
+  -- the session before it, and the text up to its name
+  before_is : (failed : Option ℕ) → crew_session d (all_but_last (said (popped ++ entry ∷ []))) (a.failures ++ failed ∷ []) ≡ a.now
+  before_is failed = ap (λ es. crew_session d (all_but_last es) (a.failures ++ failed ∷ [])) (said_more popped entry (e ∷ []) is)
+      ∙ session_before ample d (said popped) a.failures (failed ∷ []) a.now e a.done
+
+  name_is : (failed : Option ℕ) → text_to_last_name d (said (popped ++ entry ∷ [])) (a.failures ++ failed ∷ []) ≡ a.now.text ++ op_text e
+  name_is failed = ap (λ es. text_to_last_name d es (a.failures ++ failed ∷ [])) (said_more popped entry (e ∷ []) is)
+      ∙ text_before ample d (said popped) a.failures (failed ∷ []) a.now e a.done
+
+  -- a part of it was written: its line is done, and all of its name was written, or neither
+  part_so : (failed : Option ℕ) (next : Session DeskState)
+      → IsDoneWithEntries ample d (said (popped ++ entry ∷ [])) (a.failures ++ failed ∷ []) next
+      → AppendsFront start (told.holds sink') next.text → AppendsAtLeast start (told.holds sink') a.now.text
+      → (AppendsAtLeast start (told.holds sink') (a.now.text ++ op_text e) × StandsFor next.state.desk console')
+      ⊎ (AppendsFront start (told.holds sink') (a.now.text ++ op_text e) × StandsFor a.now.state.desk console')
+      → AnsweredPart ample d (popped ++ entry ∷ []) start (told.holds sink') console'
+  part_so failed next done text earlier stopped =
+      let name = sym (name_is failed) in
+      all_part ample d (popped ++ entry ∷ []) start (told.holds sink') console' (a.failures ++ failed ∷ []) next done text
+      (subst (λ (s : Session DeskState). AppendsAtLeast start (told.holds sink') s.text) (sym (before_is failed)) earlier) (elim stopped [
+        | inl whole ↦ inl (
+          subst (λ (v : List ℕ). AppendsAtLeast start (told.holds sink') v) name whole.0,
+          subst (λ (s : Session DeskState). StandsFor s.state.desk console') (sym done.is) whole.1,
+        )
+        | inr front ↦ inr (
+          subst (λ (v : List ℕ). AppendsFront start (told.holds sink') v) name front.0,
+          subst (λ (s : Session DeskState). StandsFor s.state.desk console') (sym (before_is failed)) front.1,
+        )
+      ])
+
+  -- its line was answered: no attempt failed where memory was ample, and else one failed where it may
+  module _ (result : Result Bool SinkFault)
+      (m : NamedAnswer refusals refusals' told sink sink' result a.now (op_text e) (line_of e.line) console' tally') where
+    line_done : IsDoneWithEntries ample d (said (popped ++ entry ∷ [])) (a.failures ++ m.answer.answer.failed ∷ []) m.answer.answer.next
+    line_done =
+        let w = m.answer.answer in
+        done_so w.failed w.next w.goes_on.is (spares ample w.failed (IsAcceptedEdit a.now.state.desk (line_of e.line))
+        (λ sure. m.answer.none (record { admitted = refl; stood = stood sure })) w.goes_on.allowed)
+
+    name_whole : Appends start (told.holds m.between) (a.now.text ++ op_text e)
+    name_whole = Appends-trans start (told.holds sink) (told.holds m.between) a.now.text (op_text e) a.text m.named
+
+  answered_line : (b : Bool) → NamedAnswer refusals refusals' told sink sink' (Ok b) a.now (op_text e) (line_of e.line) console' tally'
+      → AnsweredAll ample d (popped ++ entry ∷ []) start (told.holds sink') console' tally'
+  answered_line b m =
+      let w = m.answer.answer in record {
+        failures = a.failures ++ w.failed ∷ [];
+        now = w.next;
+        done = line_done (Ok b) m;
+        text = subst (λ (x : List ℕ). Appends start (told.holds sink') x) (sym w.text)
+            (Appends-trans start (told.holds m.between) (told.holds sink') (a.now.text ++ op_text e) w.reply (name_whole (Ok b) m) w.puts.whole);
+        counts = w.counts;
+        stands = w.stands;
+      }
+
+  -- or a prefix of its reply was written
+  answered_front : (f : SinkFault) → NamedAnswer refusals refusals' told sink sink' (Err f) a.now (op_text e) (line_of e.line) console' tally'
+      → AnsweredPart ample d (popped ++ entry ∷ []) start (told.holds sink') console'
+  answered_front f m =
+      let w = m.answer.answer in
+      let name = a.now.text ++ op_text e in
+      let whole = at_least_then start (told.holds m.between) (told.holds sink') name w.reply (name_whole (Err f) m) w.puts.part in
+      part_so w.failed w.next (line_done (Err f) m) (subst (λ (v : List ℕ). AppendsFront start (told.holds sink') v) (sym w.text)
+      (front_then start (told.holds m.between) (told.holds sink') name w.reply (name_whole (Err f) m) w.puts.part))
+      (at_least_first start (told.holds sink') a.now.text (op_text e) whole) (inl (whole, w.stands))
+
+  -- or a prefix of its name
+  answered_name : AppendsFront (told.holds sink) (told.holds sink') (op_text e) → StandsFor a.now.state.desk console'
+      → AnsweredPart ample d (popped ++ entry ∷ []) start (told.holds sink') console'
+  answered_name name stands =
+      let more = extends_line None (named a.now e) (line_of e.line) in
+      let front = front_then start (told.holds sink) (told.holds sink') a.now.text (op_text e) a.text name in
+      part_so None (after_entry None a.now e) (done_so None (after_entry None a.now e) refl tt)
+      (front_more start (told.holds sink') (a.now.text ++ op_text e) more.more (after_entry None a.now e).text more.text front)
+      (at_least_then start (told.holds sink) (told.holds sink') a.now.text (op_text e) a.text name) (inr (front, stands))
+
+  answered_by : (result : Result Bool SinkFault) → AnswersNamed refusals refusals' told sink sink' result a.now (op_text e) (line_of e.line) console' tally'
+      → HasAnswered ample d (popped ++ entry ∷ []) start (told.holds sink') console' tally' (result_err result)
+  answered_by (Ok b) (inl cut) = absurd (true≢false (sym cut.0))
+  answered_by (Ok b) (inr m) = answered_line b m
+  answered_by (Err f) (inl cut) = answered_name cut.1 cut.2
+  answered_by (Err f) (inr m) = answered_front f m
 
 answered_so_far : (ample : Bool) (d : Desk) (popped : List Message) (start h : Option (List ℕ)) (console : Kept) (tally : Tally)
     → AnsweredAll ample d popped start h console tally → AnsweredPart ample d popped start h console
 answered_so_far ample d popped start h console tally a =
     let text : Appends start h (crew_text d (said popped) a.failures) =
     subst (λ (s : Session DeskState). Appends start h s.text) (sym a.done.is) a.text in
-    let names = names_written d (said popped) a.failures start h text in record {
-      first = popped;
-      rest = [];
-      are = sym (append-nil popped);
-      failures = a.failures;
-      allows = a.done.allows;
-      text = front_of start h (crew_text d (said popped) a.failures) [] (crew_text d (said popped) a.failures)
-          (sym (append-nil (crew_text d (said popped) a.failures))) text;
-      earlier = at_least_first start h _ _ names;
-      stopped = inl (names, subst (λ (s : Session DeskState). StandsFor s.state.desk console) (sym a.done.is) a.stands);
-    }
+    let names = names_written d (said popped) a.failures start h text in
+    all_part ample d popped start h console a.failures a.now a.done (front_of start h a.now.text [] a.now.text (sym (append-nil a.now.text)) a.text)
+    (at_least_first start h _ _ names)
+    (inl (names, subst (λ (s : Session DeskState). StandsFor s.state.desk console) (sym a.done.is) a.stands))
 
 -- An entry has a line, which is given or, being too long, isn't.
 pub record IsSaid (entry : Message) (given : Option (List ℕ)) : Type 0 where
@@ -239,21 +199,6 @@ said_long entry given is none = record {
   means = ap meaning_of none ∙ sym long_means;
 }
 
-answered_by : {K : Type 0} (ample : Bool) (refusals refusals' : ℕ) (told : ToldBySink K) (sink sink' : K) (result : Result Bool SinkFault)
-    (d : Desk) (popped : List Message) (start : Option (List ℕ)) (console console' : Kept) (tally tally' : Tally) (entry : Message)
-    (e : CrewEntry) → (ample ≡ true → HasStood refusals refusals')
-    → (a : AnsweredAll ample d popped start (told.holds sink) console tally) → entries_of entry.place entry.number entry.sent ≡ e ∷ []
-    → AnswersNamed refusals refusals' told sink sink' result a.now (op_text e) (line_of e.line) console' tally'
-    → HasAnswered ample d (popped ++ entry ∷ []) start (told.holds sink') console' tally' (result_err result)
-answered_by ample refusals refusals' told sink sink' (Ok b) d popped start console console' tally tally' entry e stood a is (inl cut) =
-    absurd (true≢false (sym cut.0))
-answered_by ample refusals refusals' told sink sink' (Ok b) d popped start console console' tally tally' entry e stood a is (inr m) =
-    answered_line ample refusals refusals' told sink sink' b d popped start console console' tally tally' entry e stood a is m
-answered_by ample refusals refusals' told sink sink' (Err f) d popped start console console' tally tally' entry e stood a is (inl cut) =
-    answered_name ample d popped start (told.holds sink) (told.holds sink') console console' tally entry e a is cut.1 cut.2
-answered_by ample refusals refusals' told sink sink' (Err f) d popped start console console' tally tally' entry e stood a is (inr m) =
-    answered_front ample refusals refusals' told sink sink' f d popped start console console' tally tally' entry e stood a is m
-
 -- one more entry was answered, where the output had no fault before
 pub answered_entry : {K : Type 0} (ample : Bool) (refusals refusals' : ℕ) (told : ToldBySink K) (sink sink' : K)
     (result : Result Bool SinkFault) (d : Desk) (popped : List Message) (start : Option (List ℕ)) (console console' : Kept)
@@ -269,7 +214,7 @@ answered_entry ample refusals refusals' told sink sink' result d popped start co
     subst (λ o. HasAnswered ample d popped start (told.holds sink) console tally o) none so_far in
     let e = named_line entry.place entry.number has.line in
     subst (λ o. HasAnswered ample d (popped ++ entry ∷ []) start (told.holds sink') console' tally' o) (sym is)
-    (answered_by ample refusals refusals' told sink sink' result d popped start console console' tally tally' entry e stood a has.said
+    (answered_by ample d told sink sink' popped start console console' tally tally' entry e refusals refusals' stood a has.said result
     (subst (λ m. AnswersNamed refusals refusals' told sink sink' result a.now (op_text e) m console' tally') has.means
     (done a.now a.stands a.counts)))
 
@@ -278,6 +223,7 @@ pub none_is : (output : Option SinkFault) → false ≡ is_some output → outpu
 none_is None e = refl
 none_is (Some fault) e = cc
 
+-- a flush leaves what is written
 flushed_by : {T : Type 0} (result : Result T SinkFault) (ample : Bool) (d : Desk) (popped : List Message) (start h : Option (List ℕ))
     (console : Kept) (tally : Tally) → AnsweredAll ample d popped start h console tally
     → HasAnswered ample d popped start h console tally (result_err result)
@@ -292,8 +238,14 @@ pub answered_flush : {T : Type 0} (result : Result T SinkFault) (ample : Bool) (
 answered_flush result ample d popped start h h' console tally output output' none is kept so_far =
     let a : AnsweredAll ample d popped start h console tally =
     subst (λ o. HasAnswered ample d popped start h console tally o) none so_far in
-    subst (λ o. HasAnswered ample d popped start h' console tally o) (sym is)
-    (flushed_by result ample d popped start h' console tally (answered_kept ample d popped start h h' console tally a kept))
+    subst (λ o. HasAnswered ample d popped start h' console tally o) (sym is) (flushed_by result ample d popped start h' console tally (record {
+      failures = a.failures;
+      now = a.now;
+      done = a.done;
+      text = Appends-kept start h h' a.now.text a.text kept;
+      counts = a.counts;
+      stands = a.stands;
+    }))
 
 -- What comes after a fault of the output is thrown away.
 pub thrown_away : (ample : Bool) (d : Desk) (popped : List Message) (start h : Option (List ℕ)) (console : Kept) (tally : Tally)

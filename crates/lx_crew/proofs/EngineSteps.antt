@@ -24,17 +24,11 @@ cause_none told sink output = record {
   kept = λ none. (none, refl, refl);
 }
 
-rose_on : (m n o : ℕ) → Rose m n → n ≤ o → Rose m o
-rose_on m n o rose le = omega (arith, rose, le)
-
-rose_from : (m n o : ℕ) → m ≤ n → Rose n o → Rose m o
-rose_from m n o le rose = omega (arith, rose, le)
-
 -- the fault was there before, or its count rose in one of two steps
 either_rose : (m n o : ℕ) (P Q : Type 0) → m ≤ n → n ≤ o → (Q → P ⊎ Rose m n) → Q ⊎ Rose n o → P ⊎ Rose m o
 either_rose m n o P Q one two first second =
-    ⊎_elim (λ q. ⊎_elim (λ p. inl p) (λ (rose : Rose m n). inr (rose_on m n o rose two)) (first q))
-    (λ (rose : Rose n o). inr (rose_from m n o one rose)) second
+    ⊎_elim (λ q. ⊎_elim (λ p. inl p) (λ (rose : Rose m n). inr (omega (arith, rose, two))) (first q))
+    (λ (rose : Rose n o). inr (omega (arith, one, rose))) second
 
 -- one step, and then another
 pub cause_then : {K : Type 0} (told : ToldBySink K) (a b c : K) (x y z : Option SinkFault) → OutputCause told a b x y

@@ -1,253 +1,186 @@
 -- The transcript's entries with the true texts of lines that are too long.
-use Rattle.lx_crew.proofs.Imports.{◌≡◌, ℕ, zero, suc, ◌+◌, ◌-◌, ◌==◌, Bool, true, false, cond, List, [], ◌∷◌, ◌++◌, take, drop}
-use Rattle.lx_crew.proofs.Imports.{refl, sym, ap, ◌∙◌, ◌⊎◌, ⊎_elim, Option, None, true≢false, add-one, subst, eq-eqb, get_or, arith, IfSome}
-use Rattle.lx_crew.proofs.Imports.{AllByRecursion, filter-append, CrewEntry, op_text, after_entry, crew_answering, crew_session, CrewAllowsBy, Desk, line_of}
-use Rattle.lx_crew.proofs.Imports.{Session, begin_at, with_text, after_each, AreAllowed, DeskState, begun, after_meaning, IsAcceptedEdit, meaning_is, Message}
-use Rattle.lx_crew.proofs.Imports.{Sent, Line, LongLine, End, ReadFault, InputTooLong, long_line, named_line, entries_of, said, of_place, is_last, HasText}
-use Rattle.lx_crew.proofs.Imports.{HaveLines, of_operator, numbered_from, Merged, MergedSoFar, length-replicate, LINE_BYTES, MayFailUnless, spared}
-use Rattle.lx_crew.proofs.Imports.{length, crew_text, all_but_last, last_alone, text_to_last_name}
-use Rattle.std.specs.Prelude.{flat_map}
+use Rattle.lx_crew.proofs.Imports.{◌≡◌, ℕ, zero, suc, ◌+◌, ◌-◌, ◌<◌, ◌==◌, Bool, true, false, cond, List, [], ◌∷◌, ◌++◌, take, drop}
+use Rattle.lx_crew.proofs.Imports.{refl, sym, ap, ◌∙◌, append-nil, ◌⊎◌, inl, inr, Option, None, true≢false, add-one, subst, eq-eqb, get_or, arith, IfSome}
+use Rattle.lx_crew.proofs.Imports.{AllByRecursion, filter-append, map, map-append, length-map, CrewEntry, op_text, after_entry, crew_answering, crew_session}
+use Rattle.lx_crew.proofs.Imports.{Desk, line_of, Session, begin_at, with_text, after_each, AreAllowed, DeskState, begun, after_meaning, IsAcceptedEdit}
+use Rattle.lx_crew.proofs.Imports.{meaning_is, Message, Sent, Line, LongLine, End, ReadFault, InputTooLong, named_line, entries_of, said, of_place, is_last}
+use Rattle.lx_crew.proofs.Imports.{HasText, HaveLines, of_operator, numbered_from, Merged, MergedSoFar, MayFailUnless, spared, length, all_but_last}
+use Rattle.lx_crew.proofs.Imports.{last_alone, text_to_last_name, take-append_seam}
+use Rattle.std.specs.Prelude.{flat_map, not}
+use Rattle.std.specs.List.{filter}
+use Rattle.std.proofs.Math.Seq.{drop-cons}
+use Rattle.std.proofs.lemmas.Bool.{cases_Bool}
 use Rattle.std.proofs.lemmas.Bool.Decides.{nat_tests}
+use Rattle.std.proofs.lemmas.List.{drop-map, length-drop, take-map}
 use Rattle.lx_spec.specs.declared.Line.{Line as Meant}
-use Rattle.lx_crew.proofs.Lists.{none_front, tail_of}
+use Rattle.lx_spec.specs.Session.{Answering}
+use Rattle.lx_spec.proofs.Lists.{all_append}
+use Rattle.lx_crew.proofs.Lists.{long_means, text_not_last}
 
--- the text that stands for those of lines that are too long is bad
-long_means : line_of long_line ≡ None
-long_means = sym (meaning_is None long_line (omega (arith, length-replicate {A = ℕ} (LINE_BYTES + 1) 0)))
+-- the entries that have a line
+abbrev pub lines_in : List Message → List Message
+lines_in es = filter (λ (e : Message). not (is_last e.sent)) es
 
--- the line of this number of the operator at a place
-abbrev pub line_at : (ℕ → List (List ℕ)) → ℕ → ℕ → List ℕ
-line_at lines place number = get_or (lines place) (number - 1) []
+-- the line of an entry, by its operator's lines
+abbrev pub own_text : (ℕ → List (List ℕ)) → Message → List ℕ
+own_text lines e = get_or (lines e.place) (e.number - 1) []
 
-abbrev pub true_by : (ℕ → List (List ℕ)) → ℕ → ℕ → Sent → List CrewEntry
-true_by lines place number (Line l) = named_line place number (line_at lines place number) ∷ []
-true_by lines place number LongLine = named_line place number (line_at lines place number) ∷ []
-true_by lines place number End = []
-true_by lines place number ReadFault = []
-true_by lines place number InputTooLong = []
+abbrev pub own_entry : (ℕ → List (List ℕ)) → Message → CrewEntry
+own_entry lines e = named_line e.place e.number (own_text lines e)
 
 -- the entries of the transcript, each with its own text
 abbrev pub true_entries : (ℕ → List (List ℕ)) → List Message → List CrewEntry
-true_entries lines [] = []
-true_entries lines (e ∷ es) = true_by lines e.place e.number e.sent ++ true_entries lines es
+true_entries lines es = map (own_entry lines) (lines_in es)
 
 -- an entry has its own text, or is a last one
 abbrev pub IsTrueTo : (ℕ → List (List ℕ)) → Message → Type 0
-IsTrueTo lines e = is_last e.sent ≡ false → HasText e.sent (line_at lines e.place e.number)
+IsTrueTo lines e = is_last e.sent ≡ false → HasText e.sent (own_text lines e)
 
--- Entries of the same names, whose lines have the same meaning.
-abbrev Alike : List CrewEntry → List CrewEntry → Type 0
-Alike [] [] = Unit {0}
-Alike [] (y ∷ ys) = ⊥
-Alike (x ∷ xs) [] = ⊥
-Alike (x ∷ xs) (y ∷ ys) = (op_text x ≡ op_text y) × ((line_of x.line ≡ line_of y.line) × Alike xs ys)
+-- What a session sees of an entry: its name, and the meaning of its line.
+abbrev pub Key : Type 0
+Key = List ℕ × Option Meant
 
--- the session after an entry, and what may fail, are those of its name and the meaning of its line
-abbrev by_meaning : Option ℕ → Session DeskState → List ℕ → Option Meant → Session DeskState
-by_meaning failed s name meaning = after_meaning failed (with_text s name) meaning
+abbrev pub key_of : CrewEntry → Key
+key_of e = (op_text e, line_of e.line)
 
-same_entry : (failed : Option ℕ) (s : Session DeskState) (x y : CrewEntry) → op_text x ≡ op_text y → line_of x.line ≡ line_of y.line
-    → after_entry failed s x ≡ after_entry failed s y
-same_entry failed s x y name means = ap (λ v. by_meaning failed s v (line_of x.line)) name ∙ ap (by_meaning failed s (op_text y)) means
+-- entries of the same names, whose lines have the same meaning
+abbrev pub Alike : List CrewEntry → List CrewEntry → Type 0
+Alike xs ys = map key_of xs ≡ map key_of ys
+
+-- the session of names and meanings
+abbrev by_keys : Answering Key
+by_keys = record {
+  State = DeskState;
+  answer = λ failed s k. after_meaning failed (with_text s k.0) k.1;
+  MayFail = λ s k. IsAcceptedEdit s.desk k.1;
+}
+
+session_of_keys : (failures : List (Option ℕ)) (s : Session DeskState) (xs : List CrewEntry)
+    → after_each crew_answering failures s xs ≡ after_each by_keys failures s (map key_of xs)
+session_of_keys failures s [] = refl
+session_of_keys [] s (x ∷ xs) = session_of_keys [] (after_entry None s x) xs
+session_of_keys (failed ∷ failures) s (x ∷ xs) = session_of_keys failures (after_entry failed s x) xs
+
+names_of_keys : (xs : List CrewEntry) → flat_map op_text xs ≡ flat_map (λ (k : Key). k.0) (map key_of xs)
+names_of_keys [] = refl
+names_of_keys (x ∷ xs) = ap (λ v. op_text x ++ v) (names_of_keys xs)
 
 session_alike : (failures : List (Option ℕ)) (s : Session DeskState) (xs ys : List CrewEntry) → Alike xs ys
     → after_each crew_answering failures s xs ≡ after_each crew_answering failures s ys
-session_alike failures s [] [] alike = refl
-session_alike failures s [] (y ∷ ys) alike = absurd alike
-session_alike failures s (x ∷ xs) [] alike = absurd alike
-session_alike [] s (x ∷ xs) (y ∷ ys) alike =
-    ap (λ t. after_each crew_answering [] t xs) (same_entry None s x y alike.0 alike.1.0)
-    ∙ session_alike [] (after_entry None s y) xs ys alike.1.1
-session_alike (failed ∷ failures) s (x ∷ xs) (y ∷ ys) alike =
-    ap (λ t. after_each crew_answering failures t xs) (same_entry failed s x y alike.0 alike.1.0)
-    ∙ session_alike failures (after_entry failed s y) xs ys alike.1.1
+session_alike failures s xs ys alike =
+    session_of_keys failures s xs ∙ ap (after_each by_keys failures s) alike ∙ sym (session_of_keys failures s ys)
 
-allows_alike : (ample : Bool) (failures : List (Option ℕ)) (s : Session DeskState) (xs ys : List CrewEntry) → Alike xs ys
+pub allows_alike : (ample : Bool) (failures : List (Option ℕ)) (s : Session DeskState) (xs ys : List CrewEntry) → Alike xs ys
     → AreAllowed (spared ample crew_answering) failures s xs → AreAllowed (spared ample crew_answering) failures s ys
 allows_alike ample [] s xs ys alike a = tt
-allows_alike ample (failed ∷ failures) s [] [] alike a = tt
-allows_alike ample (failed ∷ failures) s [] (y ∷ ys) alike a = absurd alike
-allows_alike ample (failed ∷ failures) s (x ∷ xs) [] alike a = absurd alike
-allows_alike ample (failed ∷ failures) s (x ∷ xs) (y ∷ ys) alike a = (
-  subst (λ (m : Option Meant). IfSome failed (λ attempt. MayFailUnless ample (IsAcceptedEdit s.state.desk m))) alike.1.0 a.0,
-  allows_alike ample failures (after_entry failed s y) xs ys alike.1.1
-      (subst (λ t. AreAllowed (spared ample crew_answering) failures t xs) (same_entry failed s x y alike.0 alike.1.0) a.1),
-)
+allows_alike ample (failed ∷ failures) s xs [] alike a = tt
+allows_alike ample (failed ∷ failures) s [] (y ∷ ys) alike a = absurd cc
+allows_alike ample (failed ∷ failures) s (x ∷ xs) (y ∷ ys) alike a =
+    let key : key_of x ≡ key_of y = cc in
+    let rest : Alike xs ys = cc in (
+      subst (λ (k : Key). IfSome failed (λ attempt. MayFailUnless ample (IsAcceptedEdit s.state.desk k.1))) key a.0,
+      allows_alike ample failures (after_entry failed s y) xs ys rest
+          (subst (λ (k : Key). AreAllowed (spared ample crew_answering) failures (after_meaning failed (with_text s k.0) k.1) xs) key a.1),
+    )
 
--- The sessions are the same: only the texts of lines that are too long differ, which are bad.
-alike_by : (lines : ℕ → List (List ℕ)) (place number : ℕ) (sent : Sent) (rest rest' : List CrewEntry)
-    → (is_last sent ≡ false → HasText sent (line_at lines place number)) → Alike rest rest'
-    → Alike (entries_of place number sent ++ rest) (true_by lines place number sent ++ rest')
-alike_by lines place number (Line l) rest rest' t alike = (refl, (ap line_of (t refl), alike))
-alike_by lines place number LongLine rest rest' t alike =
-    (refl, (long_means ∙ meaning_is None (line_at lines place number) (t refl), alike))
-alike_by lines place number End rest rest' t alike = alike
-alike_by lines place number ReadFault rest rest' t alike = alike
-alike_by lines place number InputTooLong rest rest' t alike = alike
+-- So are those of all of them but the last, and the last.
+before-map : {A B : Type 0} (f : A → B) (xs : List A) → all_but_last (map f xs) ≡ map f (all_but_last xs)
+before-map f xs = ap (λ n. take (n - 1) (map f xs)) (length-map xs f) ∙ take-map f (length xs - 1) xs
 
-alike_said : (lines : ℕ → List (List ℕ)) (es : List Message) → AllByRecursion (IsTrueTo lines) es → Alike (said es) (true_entries lines es)
-alike_said lines [] all = tt
-alike_said lines (e ∷ es) all =
-    alike_by lines e.place e.number e.sent (said es) (true_entries lines es) all.0 (alike_said lines es all.1)
+alone-map : {A B : Type 0} (f : A → B) (xs : List A) → last_alone (map f xs) ≡ map f (last_alone xs)
+alone-map f xs = ap (λ n. drop (n - 1) (map f xs)) (length-map xs f) ∙ drop-map f (length xs - 1) xs
 
--- So are those of all of them but the last, and the names of the last.
-alike_take : (n : ℕ) (xs ys : List CrewEntry) → Alike xs ys → Alike (take n xs) (take n ys)
-alike_take zero xs ys alike = tt
-alike_take (suc n) [] [] alike = tt
-alike_take (suc n) [] (y ∷ ys) alike = absurd alike
-alike_take (suc n) (x ∷ xs) [] alike = absurd alike
-alike_take (suc n) (x ∷ xs) (y ∷ ys) alike = (alike.0, (alike.1.0, alike_take n xs ys alike.1.1))
+-- Entries that are alike have the same sessions.
+module _ (d : Desk) (failures : List (Option ℕ)) (xs ys : List CrewEntry) (alike : Alike xs ys) where
+  pub same_session : crew_session d xs failures ≡ crew_session d ys failures
+  same_session = session_alike failures (begin_at (begun d)) xs ys alike
 
-alike_length : (xs ys : List CrewEntry) → Alike xs ys → length xs ≡ length ys
-alike_length [] [] alike = refl
-alike_length [] (y ∷ ys) alike = absurd alike
-alike_length (x ∷ xs) [] alike = absurd alike
-alike_length (x ∷ xs) (y ∷ ys) alike = ap suc (alike_length xs ys alike.1.1)
+  pub same_before : crew_session d (all_but_last xs) failures ≡ crew_session d (all_but_last ys) failures
+  same_before = session_alike failures (begin_at (begun d)) (all_but_last xs) (all_but_last ys)
+      (sym (before-map key_of xs) ∙ ap (λ (ks : List Key). all_but_last ks) alike ∙ before-map key_of ys)
 
-alike_names : (n : ℕ) (xs ys : List CrewEntry) → Alike xs ys → flat_map op_text (drop n xs) ≡ flat_map op_text (drop n ys)
-alike_names n [] [] alike = refl
-alike_names n [] (y ∷ ys) alike = absurd alike
-alike_names n (x ∷ xs) [] alike = absurd alike
-alike_names zero (x ∷ xs) (y ∷ ys) alike =
-    ap (λ v. v ++ flat_map op_text xs) alike.0 ∙ ap (λ v. op_text y ++ v) (alike_names zero xs ys alike.1.1)
-alike_names (suc n) (x ∷ xs) (y ∷ ys) alike = alike_names n xs ys alike.1.1
+  pub same_name : text_to_last_name d xs failures ≡ text_to_last_name d ys failures
+  same_name =
+      let alone = sym (alone-map key_of xs) ∙ ap (λ (ks : List Key). last_alone ks) alike ∙ alone-map key_of ys in
+      let names = names_of_keys (last_alone xs) ∙ ap (flat_map (λ (k : Key). k.0)) alone ∙ sym (names_of_keys (last_alone ys)) in
+      λ i. (same_before i).text ++ names i
 
-pub same_before : (lines : ℕ → List (List ℕ)) (failures : List (Option ℕ)) (es : List Message) (d : Desk)
-    → AllByRecursion (IsTrueTo lines) es
-    → crew_session d (all_but_last (said es)) failures ≡ crew_session d (all_but_last (true_entries lines es)) failures
-same_before lines failures es d all =
-    let xs = said es in
-    let ys = true_entries lines es in
-    let alike = alike_said lines es all in
-    session_alike failures (begin_at (begun d)) (all_but_last xs) (take (length xs - 1) ys) (alike_take (length xs - 1) xs ys alike)
-    ∙ ap (λ n. crew_session d (take (n - 1) ys) failures) (alike_length xs ys alike)
+-- Only the texts of lines that are too long differ, which are bad.
+alike_more : (lines : ℕ → List (List ℕ)) (e : Message) (sent : Sent) (rest : List CrewEntry) (more : List Message)
+    → (is_last sent ≡ false → HasText sent (own_text lines e)) → Alike rest (map (own_entry lines) more)
+    → Alike (entries_of e.place e.number sent ++ rest) (map (own_entry lines) (cond (not (is_last sent)) (e ∷ more) more))
+alike_more lines e (Line l) rest more t alike = λ i. (op_text (named_line e.place e.number []), line_of (t refl i)) ∷ alike i
+alike_more lines e LongLine rest more t alike =
+    let means = long_means ∙ meaning_is None (own_text lines e) (t refl) in
+    λ i. (op_text (named_line e.place e.number []), means i) ∷ alike i
+alike_more lines e End rest more t alike = alike
+alike_more lines e ReadFault rest more t alike = alike
+alike_more lines e InputTooLong rest more t alike = alike
 
-pub same_name : (lines : ℕ → List (List ℕ)) (failures : List (Option ℕ)) (es : List Message) (d : Desk) → AllByRecursion (IsTrueTo lines) es
-    → text_to_last_name d (said es) failures ≡ text_to_last_name d (true_entries lines es) failures
-same_name lines failures es d all =
-    let xs = said es in
-    let ys = true_entries lines es in
-    let alike = alike_said lines es all in
-    ap (λ s. s.text ++ flat_map op_text (last_alone xs)) (same_before lines failures es d all)
-    ∙ ap (λ v. crew_text d (all_but_last ys) failures ++ v) (alike_names (length xs - 1) xs ys alike
-    ∙ ap (λ n. flat_map op_text (drop (n - 1) ys)) (alike_length xs ys alike))
-
-pub same_session : (lines : ℕ → List (List ℕ)) (failures : List (Option ℕ)) (es : List Message) (d : Desk)
-    → AllByRecursion (IsTrueTo lines) es → crew_session d (said es) failures ≡ crew_session d (true_entries lines es) failures
-same_session lines failures es d all =
-    session_alike failures (begin_at (begun d)) (said es) (true_entries lines es) (alike_said lines es all)
-
-pub same_allows : (ample : Bool) (lines : ℕ → List (List ℕ)) (failures : List (Option ℕ)) (es : List Message) (d : Desk)
-    → AllByRecursion (IsTrueTo lines) es → CrewAllowsBy ample d (said es) failures → CrewAllowsBy ample d (true_entries lines es) failures
-same_allows ample lines failures es d all a =
-    allows_alike ample failures (begin_at (begun d)) (said es) (true_entries lines es) (alike_said lines es all) a
+pub alike_said : (lines : ℕ → List (List ℕ)) (es : List Message) → AllByRecursion (IsTrueTo lines) es → Alike (said es) (true_entries lines es)
+alike_said lines [] all = refl
+alike_said lines (e ∷ es) all = alike_more lines e e.sent (said es) (lines_in es) all.0 (alike_said lines es all.1)
 
 -- What holds of each operator's entries holds of all.
 behind : (P : Message → Type 0) (e : Message) (rest : List Message) (b : Bool) → AllByRecursion P (cond b (e ∷ rest) rest) → AllByRecursion P rest
 behind P e rest true h = h.1
 behind P e rest false h = h
 
-pub all_of_all : (P : Message → Type 0) (es : List Message) → ((place : ℕ) → AllByRecursion P (of_place place es)) → AllByRecursion P es
+all_of_all : (P : Message → Type 0) (es : List Message) → ((place : ℕ) → AllByRecursion P (of_place place es)) → AllByRecursion P es
 all_of_all P [] h = tt
 all_of_all P (e ∷ es) h =
-    let here : AllByRecursion P (cond (e.place == e.place) (e ∷ of_place e.place es) (of_place e.place es)) = h e.place in
-    let mine = subst (λ b. AllByRecursion P (cond b (e ∷ of_place e.place es) (of_place e.place es))) (eq-eqb e.place e.place refl) here in
+    let mine = rw (eq-eqb e.place e.place refl) at (h e.place) in
     (mine.0, all_of_all P es (λ place. behind P e (of_place place es) (e.place == place) (h place)))
 
+pub all_front : (P : Message → Type 0) (es rest : List Message) → AllByRecursion P (es ++ rest) → AllByRecursion P es
+all_front P [] rest all = tt
+all_front P (e ∷ es) rest all = (all.0, all_front P es rest all.1)
+
 -- An operator's entries of the transcript are those of its place.
-true_sent : (lines : ℕ → List (List ℕ)) (k place number : ℕ) (sent : Sent) (rest : List CrewEntry) (more : List Message) → place ≡ k
-    → of_operator (k + 1) rest ≡ true_entries lines more
-    → of_operator (k + 1) (true_by lines place number sent ++ rest) ≡ true_by lines place number sent ++ true_entries lines more
-true_sent lines k place number (Line l) rest more own h =
-    let same : (place + 1 == k + 1) ≡ true = eq-eqb (place + 1) (k + 1) (omega (arith, own)) in rw same
-    (ap (λ (l : List CrewEntry). named_line place number (line_at lines place number) ∷ l) h)
-true_sent lines k place number LongLine rest more own h =
-    let same : (place + 1 == k + 1) ≡ true = eq-eqb (place + 1) (k + 1) (omega (arith, own)) in rw same
-    (ap (λ (l : List CrewEntry). named_line place number (line_at lines place number) ∷ l) h)
-true_sent lines k place number End rest more own h = h
-true_sent lines k place number ReadFault rest more own h = h
-true_sent lines k place number InputTooLong rest more own h = h
+same_place : (a b : ℕ) → (a + 1 == b + 1) ≡ (a == b)
+same_place a b = grind (arith, nat_tests)
 
-true_other : (lines : ℕ → List (List ℕ)) (k place number : ℕ) (sent : Sent) (rest : List CrewEntry) → (place == k) ≡ false
-    → of_operator (k + 1) (true_by lines place number sent ++ rest) ≡ of_operator (k + 1) rest
-true_other lines k place number (Line l) rest other =
-    let away : (place + 1 == k + 1) ≡ false = grind (arith, nat_tests, other) in rw away refl
-true_other lines k place number LongLine rest other =
-    let away : (place + 1 == k + 1) ≡ false = grind (arith, nat_tests, other) in rw away refl
-true_other lines k place number End rest other = refl
-true_other lines k place number ReadFault rest other = refl
-true_other lines k place number InputTooLong rest other = refl
-
-true_here : (lines : ℕ → List (List ℕ)) (k place number : ℕ) (sent : Sent) (rest : List CrewEntry) (more : List Message) (e : Message)
-    → e.place ≡ place → e.number ≡ number → e.sent ≡ sent → of_operator (k + 1) rest ≡ true_entries lines more → (b : Bool) →
-    (place == k) ≡ b
-    → of_operator (k + 1) (true_by lines place number sent ++ rest) ≡ true_entries lines (cond b (e ∷ more) more)
-true_here lines k place number sent rest more e own num is h true b =
-    let p : place ≡ k = grind (arith, nat_tests, b) in
-    true_sent lines k place number sent rest more p h ∙ ap
-    (λ (x : ℕ × (ℕ × Sent)). true_by lines x.0 x.1.0 x.1.1 ++ true_entries lines more)
-    (sym (λ i. (own i, (num i, is i))))
-true_here lines k place number sent rest more e own num is h false b = true_other lines k place number sent rest b ∙ h
-
-pub operator_true : (lines : ℕ → List (List ℕ)) (k : ℕ) (es : List Message)
+operator_true : (lines : ℕ → List (List ℕ)) (k : ℕ) (es : List Message)
     → of_operator (k + 1) (true_entries lines es) ≡ true_entries lines (of_place k es)
 operator_true lines k [] = refl
-operator_true lines k (e ∷ es) =
-    true_here lines k e.place e.number e.sent (true_entries lines es) (of_place k es) e refl refl refl (operator_true lines k es)
-    (e.place == k) refl
+operator_true lines k (e ∷ es) = elim (cases_Bool (is_last e.sent)) [
+  | inl last ↦ elim (cases_Bool (e.place == k)) [
+    | inl mine ↦ simp (last, mine) (operator_true lines k es)
+    | inr other ↦ simp (last, other) (operator_true lines k es)
+  ]
+  | inr line ↦ elim (cases_Bool (e.place == k)) [
+    | inl mine ↦ simp (line, mine, same_place) (ap (λ rest. own_entry lines e ∷ rest) (operator_true lines k es))
+    | inr other ↦ simp (line, other, same_place) (operator_true lines k es)
+  ]
+]
+
+-- Operators are numbered from 1.
+none_of_0 : (lines : ℕ → List (List ℕ)) (es : List Message) → of_operator 0 (map (own_entry lines) es) ≡ []
+none_of_0 lines [] = refl
+none_of_0 lines (e ∷ es) = let other : (e.place + 1 == 0) ≡ false = grind (arith, nat_tests) in rw other (none_of_0 lines es)
 
 -- An operator's entries with its lines, from one on.
 at_drop : (xs : List (List ℕ)) (m : ℕ) (l : List ℕ) (ls : List (List ℕ)) → drop m xs ≡ l ∷ ls
     → (get_or xs m [] ≡ l) × (drop (m + 1) xs ≡ ls)
-at_drop [] zero l ls e = absurd cc
-at_drop [] (suc m) l ls e = absurd cc
-at_drop (x ∷ xs) zero l ls e = (cc, cc)
-at_drop (x ∷ xs) (suc m) l ls e =
-    let r = at_drop xs m l ls e in
-    let next : suc m + 1 ≡ suc (m + 1) = omega arith in
-    (r.0, ap (λ n. drop n (x ∷ xs)) next ∙ r.1)
+at_drop xs m l ls e =
+    let within : m < length xs = omega (arith, ap length e, length-drop m xs) in
+    let both : get_or xs m [] ∷ drop (suc m) xs ≡ l ∷ ls = sym (drop-cons xs m [] within) ∙ e in
+    let rest : drop (suc m) xs ≡ ls = cc in
+    (cc, ap (λ n. drop n xs) (add-one m) ∙ rest)
 
-own_line : (lines : ℕ → List (List ℕ)) (k m place number : ℕ) (l : List ℕ) → place ≡ k → number ≡ m + 1 → get_or (lines k) m [] ≡ l
-    → line_at lines place number ≡ l
-own_line lines k m place number l own num is =
-    let n : number - 1 ≡ m = omega (arith, num) in
-    ap (λ p. get_or (lines p) (number - 1) []) own ∙ (ap (λ i. get_or (lines k) i []) n ∙ is)
-
-one_named : (lines : ℕ → List (List ℕ)) (k m place number : ℕ) (l : List ℕ) → place ≡ k → number ≡ m + 1 → get_or (lines k) m [] ≡ l
-    → (rest : List CrewEntry) → named_line place number (line_at lines place number) ∷ rest ≡ named_line k (m + 1) l ∷ rest
-one_named lines k m place number l own num is rest =
-    let same = own_line lines k m place number l own num is in
-    ap (λ p. named_line p number (line_at lines place number) ∷ rest) own
-    ∙ (ap (λ n. named_line k n (line_at lines place number) ∷ rest) num ∙ ap (λ u. named_line k (m + 1) u ∷ rest) same)
-
-one_true : (lines : ℕ → List (List ℕ)) (k m place number : ℕ) (sent : Sent) (l : List ℕ) → place ≡ k → number ≡ m + 1 → HasText sent l
-    → get_or (lines k) m [] ≡ l → (rest : List CrewEntry) → true_by lines place number sent ++ rest ≡ named_line k (m + 1) l ∷ rest
-one_true lines k m place number (Line t) l own num text is rest = one_named lines k m place number l own num is rest
-one_true lines k m place number LongLine l own num text is rest = one_named lines k m place number l own num is rest
-one_true lines k m place number End l own num text is rest = absurd text
-one_true lines k m place number ReadFault l own num text is rest = absurd text
-one_true lines k m place number InputTooLong l own num text is rest = absurd text
-
-pub true_lines : (lines : ℕ → List (List ℕ)) (k m : ℕ) (es : List Message) (ls : List (List ℕ)) → HaveLines k (m + 1) es ls
-    → drop m (lines k) ≡ ls → true_entries lines es ≡ numbered_from (k + 1) (m + 1) ls
-true_lines lines k m [] [] h is = refl
-true_lines lines k m [] (l ∷ ls) h is = absurd h
-true_lines lines k m (e ∷ es) [] h is = absurd h
-true_lines lines k m (e ∷ es) (l ∷ ls) h is =
-    let a = at_drop (lines k) m l ls is in
-    one_true lines k m e.place e.number e.sent l h.0 h.1.0 h.1.1.0 a.0 (true_entries lines es)
-    ∙ ap (λ (x : List CrewEntry). named_line k (m + 1) l ∷ x) (true_lines lines k (m + 1) es ls h.1.1.1 a.1)
-
--- each entry of an operator has its own text
-true_to : (lines : ℕ → List (List ℕ)) (k m : ℕ) (es : List Message) (ls : List (List ℕ)) → HaveLines k (m + 1) es ls → drop m (lines k) ≡ ls
-    → AllByRecursion (IsTrueTo lines) es
-true_to lines k m [] [] h is = tt
-true_to lines k m [] (l ∷ ls) h is = absurd h
-true_to lines k m (e ∷ es) [] h is = absurd h
-true_to lines k m (e ∷ es) (l ∷ ls) h is =
-    let a = at_drop (lines k) m l ls is in (
-      (λ line. subst (HasText e.sent) (sym (own_line lines k m e.place e.number l h.0 h.1.0 a.0)) h.1.1.0),
-      true_to lines k (m + 1) es ls h.1.1.1 a.1,
+-- each has its own text, and they stand for the lines
+own_lines : (lines : ℕ → List (List ℕ)) (k m : ℕ) (es : List Message) (ls : List (List ℕ)) → HaveLines k (m + 1) es ls → drop m (lines k) ≡ ls
+    → AllByRecursion (IsTrueTo lines) es × (true_entries lines es ≡ numbered_from (k + 1) (m + 1) ls)
+own_lines lines k m [] [] h is = (tt, refl)
+own_lines lines k m [] (l ∷ ls) h is = absurd h
+own_lines lines k m (e ∷ es) [] h is = absurd h
+own_lines lines k m (e ∷ es) (l ∷ ls) h is =
+    let at = at_drop (lines k) m l ls is in
+    let place : e.number - 1 ≡ m = omega (arith, h.1.0) in
+    let text : own_text lines e ≡ l = (λ i. get_or (lines (h.0 i)) (place i) []) ∙ at.0 in
+    let more = own_lines lines k (m + 1) es ls h.1.1.1 at.1 in (
+      ((λ line. subst (HasText e.sent) (sym text) h.1.1.0), more.0),
+      rw (text_not_last e.sent l h.1.1.0) (λ i. named_line (h.0 i) (h.1.0 i) (text i) ∷ more.1 i),
     )
 
 -- The entries of the operator at a place are those of all its lines, and then its last, which has none.
@@ -262,114 +195,54 @@ pub record AllSent (k : ℕ) (es : List Message) (ls : List (List ℕ)) : Type 0
 abbrev pub SentAt : (ℕ → List (List ℕ)) → ℕ → List Message → Type 0
 SentAt lines k es = AllSent k es (lines k) ⊎ ((es ≡ []) × (lines k ≡ []))
 
-no_line : {A : Type 0} (sent : Sent) → is_last sent ≡ true → is_last sent ≡ false → A
-no_line sent is isnt = absurd (true≢false (sym is ∙ isnt))
+true-append : (lines : ℕ → List (List ℕ)) (xs ys : List Message) → true_entries lines (xs ++ ys) ≡ true_entries lines xs ++ true_entries lines ys
+true-append lines xs ys = ap (map (own_entry lines)) (filter-append (λ (e : Message). not (is_last e.sent)) xs ys)
+    ∙ map-append (own_entry lines) (lines_in xs) (lines_in ys)
 
-true_last : (lines : ℕ → List (List ℕ)) (place number : ℕ) (sent : Sent) → is_last sent ≡ true → true_by lines place number sent ≡ []
-true_last lines place number (Line l) is = no_line (Line l) is refl
-true_last lines place number LongLine is = no_line LongLine is refl
-true_last lines place number End is = refl
-true_last lines place number ReadFault is = refl
-true_last lines place number InputTooLong is = refl
-
-true_snoc : (lines : ℕ → List (List ℕ)) (es : List Message) (last : Message) → is_last last.sent ≡ true
-    → true_entries lines (es ++ last ∷ []) ≡ true_entries lines es
-true_snoc lines [] last end = ap (λ (u : List CrewEntry). u ++ []) (true_last lines last.place last.number last.sent end)
-true_snoc lines (e ∷ es) last end = ap (λ (u : List CrewEntry). true_by lines e.place e.number e.sent ++ u) (true_snoc lines es last end)
-
-all_snoc : (P : Message → Type 0) (es : List Message) (e : Message) → AllByRecursion P es → P e → AllByRecursion P (es ++ e ∷ [])
-all_snoc P [] e all one = (one, tt)
-all_snoc P (x ∷ es) e all one = (all.0, all_snoc P es e all.1 one)
-
-pub all_front : (P : Message → Type 0) (es rest : List Message) → AllByRecursion P (es ++ rest) → AllByRecursion P es
-all_front P [] rest all = tt
-all_front P (e ∷ es) rest all = (all.0, all_front P es rest all.1)
-
-true_at : (lines : ℕ → List (List ℕ)) (k : ℕ) (es : List Message) → SentAt lines k es → AllByRecursion (IsTrueTo lines) es
-true_at lines k es s =
-    ⊎_elim (λ (a : AllSent k es (lines k)). subst (AllByRecursion (IsTrueTo lines)) (sym a.are)
-    (all_snoc (IsTrueTo lines) a.front a.last (true_to lines k 0 a.front (lines k) a.have refl) (λ line. no_line a.last.sent a.ends line)))
-    (λ (n : (es ≡ []) × (lines k ≡ [])). subst (AllByRecursion (IsTrueTo lines)) (sym n.0) tt) s
+-- all entries of an operator have their own texts, and stand for all its lines
+own_all : (lines : ℕ → List (List ℕ)) (k : ℕ) (es : List Message) → SentAt lines k es
+    → AllByRecursion (IsTrueTo lines) es × (true_entries lines es ≡ numbered_from (k + 1) 1 (lines k))
+own_all lines k es (inl a) =
+    let own = own_lines lines k 0 a.front (lines k) a.have refl in
+    let end : true_entries lines (a.last ∷ []) ≡ [] = rw a.ends refl in (
+      subst (AllByRecursion (IsTrueTo lines)) (sym a.are)
+          (all_append (IsTrueTo lines) a.front (a.last ∷ []) own.0 ((λ line. absurd (true≢false (sym a.ends ∙ line))), tt)),
+      ap (true_entries lines) a.are ∙ true-append lines a.front (a.last ∷ [])
+          ∙ ap (λ more. true_entries lines a.front ++ more) end ∙ append-nil (true_entries lines a.front) ∙ own.1,
+    )
+own_all lines k es (inr n) = (
+  subst (AllByRecursion (IsTrueTo lines)) (sym n.0) tt,
+  ap (true_entries lines) n.0 ∙ ap (numbered_from (k + 1) 1) (sym n.1),
+)
 
 pub all_true : (lines : ℕ → List (List ℕ)) (es : List Message) → ((k : ℕ) → SentAt lines k (of_place k es))
     → AllByRecursion (IsTrueTo lines) es
-all_true lines es sent = all_of_all (IsTrueTo lines) es (λ k. true_at lines k (of_place k es) (sent k))
+all_true lines es sent = all_of_all (IsTrueTo lines) es (λ k. (own_all lines k (of_place k es) (sent k)).0)
 
--- All entries of an operator stand for all its lines.
-whole_at : (lines : ℕ → List (List ℕ)) (k : ℕ) (es : List Message) → SentAt lines k es
-    → true_entries lines es ≡ numbered_from (k + 1) 1 (lines k)
-whole_at lines k es s =
-    ⊎_elim (λ (a : AllSent k es (lines k)). ap (true_entries lines) a.are
-    ∙ (true_snoc lines a.front a.last a.ends ∙ true_lines lines k 0 a.front (lines k) a.have refl))
-    (λ (n : (es ≡ []) × (lines k ≡ [])). ap (true_entries lines) n.0 ∙ ap (numbered_from (k + 1) 1) (sym n.1)) s
-
--- Its first entries stand for its first lines.
-first_lines : (lines : ℕ → List (List ℕ)) (k m : ℕ) (es : List Message) (ls : List (List ℕ)) (last : Message) (xs ys : List Message)
-    → HaveLines k (m + 1) es ls → drop m (lines k) ≡ ls → is_last last.sent ≡ true → xs ++ ys ≡ es ++ last ∷ []
-    → (n : ℕ) × (true_entries lines xs ≡ numbered_from (k + 1) (m + 1) (take n ls))
-first_lines lines k m es ls last [] ys h is end e = (0, refl)
-first_lines lines k m [] [] last (x ∷ xs) ys h is end e =
-    let same : x ≡ last = cc in
-    let none : xs ≡ [] = none_front xs ys (ap tail_of e) in (
-      0,
-      ap (λ (z : Message). true_by lines z.place z.number z.sent ++ true_entries lines xs) same
-          ∙ (ap (λ zs. true_by lines last.place last.number last.sent ++ true_entries lines zs) none
-          ∙ ap (λ (u : List CrewEntry). u ++ []) (true_last lines last.place last.number last.sent end)),
-    )
-first_lines lines k m [] (l ∷ ls) last (x ∷ xs) ys h is end e = absurd h
-first_lines lines k m (e ∷ es) [] last (x ∷ xs) ys h is end e' = absurd h
-first_lines lines k m (e ∷ es) (l ∷ ls) last (x ∷ xs) ys h is end e' =
-    let a = at_drop (lines k) m l ls is in
-    let same : x ≡ e = cc in
-    let r = first_lines lines k (m + 1) es ls last xs ys h.1.1.1 a.1 end (ap tail_of e') in (
-      suc r.0,
-      ap (λ (z : Message). true_by lines z.place z.number z.sent ++ true_entries lines xs) same
-          ∙ (one_true lines k m e.place e.number e.sent l h.0 h.1.0 h.1.1.0 a.0 (true_entries lines xs)
-          ∙ ap (λ (u : List CrewEntry). named_line k (m + 1) l ∷ u) r.1),
-    )
-
-first_at : (lines : ℕ → List (List ℕ)) (k : ℕ) (es xs ys : List Message) → SentAt lines k es → es ≡ xs ++ ys
-    → (n : ℕ) × (true_entries lines xs ≡ numbered_from (k + 1) 1 (take n (lines k)))
-first_at lines k es xs ys s are =
-    ⊎_elim (λ (a : AllSent k es (lines k)). first_lines lines k 0 a.front (lines k) a.last xs ys a.have refl a.ends (sym are ∙ a.are))
-    (λ (n : (es ≡ []) × (lines k ≡ [])). (
-      0,
-      ap (true_entries lines) (none_front xs ys (sym are ∙ n.0)),
-    )) s
-
--- Operators are numbered from 1.
 abbrev pub by_number : (ℕ → List (List ℕ)) → ℕ → List (List ℕ)
 by_number lines zero = []
 by_number lines (suc k) = lines k
 
-none_by : (lines : ℕ → List (List ℕ)) (place number : ℕ) (sent : Sent) (rest : List CrewEntry)
-    → of_operator 0 (true_by lines place number sent ++ rest) ≡ of_operator 0 rest
-none_by lines place number (Line l) rest = let other : (place + 1 == 0) ≡ false = grind (arith, nat_tests) in rw other refl
-none_by lines place number LongLine rest = let other : (place + 1 == 0) ≡ false = grind (arith, nat_tests) in rw other refl
-none_by lines place number End rest = refl
-none_by lines place number ReadFault rest = refl
-none_by lines place number InputTooLong rest = refl
-
-none_of_0 : (lines : ℕ → List (List ℕ)) (es : List Message) → of_operator 0 (true_entries lines es) ≡ []
-none_of_0 lines [] = refl
-none_of_0 lines (e ∷ es) = none_by lines e.place e.number e.sent (true_entries lines es) ∙ none_of_0 lines es
-
 pub merged : (lines : ℕ → List (List ℕ)) (es : List Message) → ((k : ℕ) → SentAt lines k (of_place k es))
     → Merged (by_number lines) (true_entries lines es)
-merged lines es sent zero = none_of_0 lines es
+merged lines es sent zero = none_of_0 lines (lines_in es)
 merged lines es sent (suc k) =
     subst (λ o. of_operator o (true_entries lines es) ≡ numbered_from o 1 (lines k)) (add-one k)
-    (operator_true lines k es ∙ whole_at lines k (of_place k es) (sent k))
+    (operator_true lines k es ∙ (own_all lines k (of_place k es) (sent k)).1)
+
+-- The first entries stand for each operator's first lines.
+numbered_take : (n operator m : ℕ) (ls : List (List ℕ)) → take n (numbered_from operator m ls) ≡ numbered_from operator m (take n ls)
+numbered_take zero operator m ls = refl
+numbered_take (suc n) operator m [] = refl
+numbered_take (suc n) operator m (l ∷ ls) = λ i. record { operator = operator; number = m; line = l } ∷ numbered_take n operator (m + 1) ls i
 
 pub merged_so_far : (lines : ℕ → List (List ℕ)) (es first rest : List Message) → ((k : ℕ) → SentAt lines k (of_place k es))
-    → es ≡ first ++ rest
-    → MergedSoFar (by_number lines) (true_entries lines first)
-merged_so_far lines es first rest sent are zero = (0, none_of_0 lines first)
-merged_so_far lines es first rest sent are (suc k) =
-    let split : of_place k es ≡ of_place k first ++ of_place k rest =
-    ap (of_place k) are ∙ filter-append (λ (x : Message). x.place == k) first rest in
-    let r = first_at lines k (of_place k es) (of_place k first) (of_place k rest) (sent k) split in (
-      r.0,
-      subst (λ o. of_operator o (true_entries lines first) ≡ numbered_from o 1 (take r.0 (lines k))) (add-one k)
-          (operator_true lines k first ∙ r.1),
+    → es ≡ first ++ rest → MergedSoFar (by_number lines) (true_entries lines first)
+merged_so_far lines es first rest sent are operator =
+    let xs = of_operator operator (true_entries lines first) in
+    let both = ap (λ zs. of_operator operator (true_entries lines zs)) are ∙ ap (of_operator operator) (true-append lines first rest)
+    ∙ filter-append (λ (e : CrewEntry). e.operator == operator) (true_entries lines first) (true_entries lines rest) in (
+      length xs,
+      sym (take-append_seam xs (of_operator operator (true_entries lines rest)))
+          ∙ ap (take (length xs)) (sym both ∙ merged lines es sent operator) ∙ numbered_take (length xs) operator 1 (by_number lines operator),
     )

@@ -7,7 +7,8 @@ use mathlib.Core.Option.{some, some-ne-none, some-injective}
 use lib.ListN.{get_elem?}
 use Rattle.crossbeam_queue.specs.Fifo.{Pushes, Pops, Forks, Merges, Learns}
 use Rattle.crossbeam_queue.proofs.Lists.{at_set}
-use Rattle.lx_crew.proofs.Lists.{all_map, of_mine, of_other, numbered_snoc}
+use Rattle.lx_spec.proofs.Lists.{each}
+use Rattle.lx_crew.proofs.Lists.{of_mine, of_other, numbered_snoc}
 
 abbrev All : (ℕ → View → Type 0) → List View → Type 0
 All F views = (pass : ℕ) (v : View) → get_elem? views pass ≡ some v → F pass v
@@ -17,13 +18,6 @@ all_set : (F : ℕ → View → Type 0) (views : List View) (pass : ℕ) (w : Vi
 all_set F views pass w mine others j u e = ⊎_elim
     (λ (x : (j ≡ pass) × (w ≡ u)). subst (λ (y : ℕ × View). F y.0 y.1) (λ i. (sym x.0 i, x.1 i)) mine)
     (λ (x : (j ≢ pass) × (get_elem? views j ≡ some u)). others j u x.0 x.1) (at_set views pass j w u e)
-
--- the first of a list of one
-at_end : (l : List View) (a b : View) (j : ℕ) → get_elem? l j ≢ some b → get_elem? (l ++ a ∷ []) j ≡ some b → j ≡ length l
-at_end [] a b zero n e = refl
-at_end [] a b (suc j) n e = absurd (some-ne-none b (sym e))
-at_end (x ∷ xs) a b zero n e = absurd (n e)
-at_end (x ∷ xs) a b (suc j) n e = ap suc (at_end xs a b j n e)
 
 -- what stands in a list with one more: it stood there, or it is the new one at the end
 at_new : (l : List View) (a b : View) (j : ℕ) → get_elem? (l ++ a ∷ []) j ≡ some b → (get_elem? l j ≡ some b) ⊎ ((j ≡ length l) × (a ≡ b))
@@ -49,8 +43,9 @@ begins = record {
   log = [];
   in_order = refl;
   numbered = λ k. tt;
-  each = all_set (FitsPass 0 (λ k. 0) [] []) (engine_view 0 [] [] ∷ []) 0 (engine_view 0 [] []) first_fits
-      (λ j u other e. absurd (other (at_end [] _ u j (λ x. some-ne-none u (sym x)) e)));
+  each = λ j u e. ⊎_elim (λ none. absurd (some-ne-none u (sym none)))
+      (λ (is : (j ≡ 0) × (engine_view 0 [] [] ≡ u)). subst (λ (y : ℕ × View). FitsPass 0 (λ k. 0) [] [] y.0 y.1) (λ i. (sym is.0 i, is.1 i))
+      first_fits) (at_new [] (engine_view 0 [] []) u j e);
 }
 
 -- an operator that isn't e's keeps its list
@@ -62,7 +57,7 @@ kept_by reader seat popped log pass e j u mine f =
       reads = f.reads;
       got = f.got;
       later = λ k h. ((f.later k h).0, of_other k log e (free k (f.later k h).0) ∙ (f.later k h).1);
-      lists = all_map _ _ u.kept (λ p h. (h.0, h.1, h.2 ∙ sym (of_other p.0 log e (free p.0 h.1)))) f.lists;
+      lists = each _ _ u.kept (λ p h. (h.0, h.1, h.2 ∙ sym (of_other p.0 log e (free p.0 h.1)))) f.lists;
     }
 
 numbered_on : (log : List Message) (e : Message) (k : ℕ) → Numbered 1 (of_place k log) → (e.place ≡ k → e.number ≡ 1 + length (of_place k log))
@@ -178,7 +173,7 @@ forks pass v may none items views h at =
         got = mine.got;
         later = λ k after. let k' : v.made ≤ k = omega (arith, after) in let other : k ≢ v.made = λ is. omega (arith, after, is) in
             (away k other ∙ (mine.later k k').0, (mine.later k k').1);
-        lists = all_map _ _ v.kept (λ p q. (omega (arith, q.0), away p.0 (λ is. omega (arith, q.0, is)) ∙ q.1, q.2)) mine.lists;
+        lists = each _ _ v.kept (λ p q. (omega (arith, q.0), away p.0 (λ is. omega (arith, q.0, is)) ∙ q.1, q.2)) mine.lists;
       },
     )
     (λ j u other is. (
@@ -221,7 +216,7 @@ merges pass v other u may none sent items views h at apart at' =
         reads = mine.reads;
         got = mine.got;
         later = λ k after. (gone k (mine.later k after).0, (mine.later k after).1);
-        lists = ((made, reseat_here h.seat u.place 0, theirs.1), all_map _ _ v.kept (λ p q. (q.0, gone p.0 q.1, q.2)) mine.lists);
+        lists = ((made, reseat_here h.seat u.place 0, theirs.1), each _ _ v.kept (λ p q. (q.0, gone p.0 q.1, q.2)) mine.lists);
       };
     })
     (λ j y different is away_from. record {
@@ -247,6 +242,6 @@ totals pass v may items views h at =
     let mine = (h.each pass v at).engine may in
     let all : h.log ≡ v.popped ++ items = h.in_order ∙ ap (λ (l : List Message). l ++ items) (sym mine.got) in
     record {
-      lists = all_map _ _ v.kept (λ p q. q.2 ∙ ap (λ (l : List Message). of_place p.0 l) all) mine.lists;
+      lists = each _ _ v.kept (λ p q. q.2 ∙ ap (λ (l : List Message). of_place p.0 l) all) mine.lists;
       others = λ k h. ap (λ (l : List Message). of_place k l) (sym all) ∙ (mine.later k h).1;
     }

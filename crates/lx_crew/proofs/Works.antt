@@ -1,27 +1,16 @@
 -- Lists of works and of places.
-use Rattle.lx_crew.proofs.Imports.{true≢false, ◌==◌, true, false, ◌≡◌, ◌≢◌, ℕ, zero, suc, ◌+◌, ◌<◌, ◌≤◌, List, [], ◌∷◌}
+use Rattle.lx_crew.proofs.Imports.{true≢false, ◌==◌, true, false, ◌≡◌, ℕ, zero, suc, ◌+◌, ◌<◌, ◌≤◌, List, [], ◌∷◌}
 use Rattle.lx_crew.proofs.Imports.{◌++◌, length, map, set, get_or, slice_get, Option, Some, None, IsSome, sym, refl, ap, ◌∙◌, subst, inl, inr}
-use Rattle.lx_crew.proofs.Imports.{⊎_elim, ◌⊎◌, take, drop, drop_of_length-le, append-nil, arith, AllByRecursion, AllZip, All, ℕ_discrete}
-use Rattle.lx_crew.proofs.Imports.{slice_get_read, slice_get-get_or, AllZip-long, take-length, Message, View, Operator, of_place, is_last, has_last, HasText}
-use Rattle.lx_crew.proofs.Imports.{HaveLines, Sent, Line, LongLine, End, ReadFault, InputTooLong, engine_view, operator_view, HasSentLines, EachAt}
+use Rattle.lx_crew.proofs.Imports.{take, drop, append_assoc, map-append, take-append_seam, append-nil, arith, AllByRecursion, AllZip, All, ℕ_discrete}
+use Rattle.lx_crew.proofs.Imports.{slice_get_read, slice_get-get_or, AllZip-long, Message, View, Operator, of_place, is_last, has_last}
+use Rattle.lx_crew.proofs.Imports.{HaveLines, engine_view, operator_view, HasSentLines, EachAt}
 use Rattle.lx_crew.proofs.Imports.{HasRunOperator, Hired, HasSentNothing, Works, Retired, owned, filter-append, view, Pass, IsSamePass, ToldBySource}
-use Rattle.lx_crew.proofs.Lists.{or_none, none_behind, tail_of, head_last}
+use Rattle.lx_work.proofs.Places.{get_last, get_left, get-set_cases, get-set_other, get-set_same, zip_at}
+use Rattle.lx_crew.proofs.Lists.{none_both, text_not_last}
 
 pub each_zip : {A B : Type 0} (R : A → B → Type 0) (P : ℕ → A → Type 0) (Q : ℕ → B → Type 0) (xs : List A) (ys : List B) → AllZip R xs ys
     → EachAt P xs → ((k : ℕ) (x : A) (y : B) → P k x → R x y → Q k y) → EachAt Q ys
-each_zip R P Q [] [] z h f k y is = absurd cc
-each_zip R P Q [] (y ∷ ys) z h f k w is = absurd z
-each_zip R P Q (x ∷ xs) [] z h f k w is = absurd z
-each_zip R P Q (x ∷ xs) (y ∷ ys) z h f zero w is = let same : y ≡ w = cc in subst (λ v. Q zero v) same (f zero x y (h zero x refl) z.0)
-each_zip R P Q (x ∷ xs) (y ∷ ys) z h f (suc k) w is = each_zip R (λ i. P (suc i)) (λ i. Q (suc i)) xs ys z.1 (λ i v q. h (suc i) v q)
-    (λ i a b p r. f (suc i) a b p r) k w is
-
-pub get_else : {A : Type 0} (l : List A) (i j : ℕ) (a : A) → j ≢ i → slice_get (set l i a) j ≡ slice_get l j
-get_else [] i j a n = refl
-get_else (x ∷ xs) zero zero a n = absurd (n refl)
-get_else (x ∷ xs) zero (suc j) a n = refl
-get_else (x ∷ xs) (suc i) zero a n = refl
-get_else (x ∷ xs) (suc i) (suc j) a n = get_else xs i j a (λ e. n (ap suc e))
+each_zip R P Q xs ys z h f k y is = let x = zip_at R xs ys k y z is in f k x.0 y (h k x.0 x.1) x.2
 
 pub at_place : {A : Type 0} (l : List A) (i : ℕ) (a : A) → i < length l → a ≡ get_or l i a → slice_get l i ≡ Some a
 at_place l i a lt is = slice_get_read l (length l) i a refl lt is
@@ -47,70 +36,31 @@ map_at P f [] ys h k x is = absurd cc
 map_at P f (z ∷ xs) ys h zero x is = let same : z ≡ x = cc in subst (λ w. P (f w)) same h.0
 map_at P f (z ∷ xs) ys h (suc k) x is = map_at P f xs ys h.1 k x is
 
-first_or : {A : Type 0} (P : ℕ → A → Type 0) (z : A) (xs : List A) → (Unit {0} → P 0 z) → EachAt (λ i. P (suc i)) xs → EachAt P (z ∷ xs)
-first_or P z xs first h zero y is = let same : z ≡ y = cc in subst (λ w. P zero w) same (first tt)
-first_or P z xs first h (suc k) y is = h k y is
-
 pub each_init : {A : Type 0} (P : ℕ → A → Type 0) (xs : List A) (x : A) → EachAt P (xs ++ x ∷ []) → EachAt P xs × P (length xs) x
-each_init P [] x h = ((λ k y is. absurd cc), h 0 x refl)
-each_init P (z ∷ xs) x h =
-    let r = each_init (λ i. P (suc i)) xs x (λ k y is. h (suc k) y is) in (
-      (λ k y is. first_or P z xs (λ u. h 0 z refl) r.0 k y is),
-      r.1,
-    )
+each_init P xs x h = ((λ k y is. h k y (get_left xs (x ∷ []) k y is)), h (length xs) x (get_last xs x))
 
 pub map_snoc : {A B : Type 0} (f : A → B) (xs : List A) (x : A) (ys : List B) → map f (xs ++ x ∷ []) ++ ys ≡ map f xs ++ f x ∷ ys
-map_snoc f [] x ys = refl
-map_snoc f (z ∷ xs) x ys = ap (λ (l : List _). f z ∷ l) (map_snoc f xs x ys)
-
-set_cases : {A : Type 0} (l : List A) (i k : ℕ) (a b : A) → slice_get (set l i a) k ≡ Some b
-    → ((k ≡ i) × (a ≡ b)) ⊎ ((k ≢ i) × (slice_get l k ≡ Some b))
-set_cases [] i k a b e = absurd cc
-set_cases (x ∷ xs) zero zero a b e = inl (refl, cc)
-set_cases (x ∷ xs) zero (suc k) a b e = inr ((λ h. omega arith), e)
-set_cases (x ∷ xs) (suc i) zero a b e = inr ((λ h. omega arith), e)
-set_cases (x ∷ xs) (suc i) (suc k) a b e = ⊎_elim (λ t. inl (ap suc t.0, t.1)) (λ t. let n = t.0 in inr ((λ h. n (omega arith)), t.1))
-    (set_cases xs i k a b e)
-
-pub get_here : {A : Type 0} (l : List A) (i : ℕ) (a : A) → i < length l → slice_get (set l i a) i ≡ Some a
-get_here [] i a lt = absurd (omega (arith, lt))
-get_here (x ∷ xs) zero a lt = refl
-get_here (x ∷ xs) (suc i) a lt = get_here xs i a (omega (arith, lt))
-
-told_one : {A B : Type 0} (f : A → B) (all : List A) (told : List B) (n m i : ℕ) (x : A) (new : B) → new ≡ f x → slice_get all n ≡ Some x
-    → n < length told → m ≡ n + 1 → i ≡ n → EachAt (λ k y. m ≤ k → slice_get told k ≡ Some (f y)) all → (k : ℕ) (y : A)
-    → slice_get all k ≡ Some y → n ≤ k → Dec (k ≡ n) → slice_get (set told i new) k ≡ Some (f y)
-told_one f all told n m i x new is at within more here h k y its after (yes same) =
-    let e : slice_get all k ≡ Some x = ap (slice_get all) same ∙ at in
-    let one : x ≡ y = cc in
-    let j : k ≡ i = same ∙ sym here in
-    subst (λ j. slice_get (set told i new) j ≡ Some (f y)) (sym j)
-    (get_here told i new (omega (arith, within, here)) ∙ ap (λ (z : _). Some z) (is ∙ ap f one))
-told_one f all told n m i x new is at within more here h k y its after (no other) =
-    get_else told i k new (λ e. other (e ∙ here)) ∙ h k y its (omega (arith, more, after, other))
+map_snoc f xs x ys = rw (map-append f xs (x ∷ [])) (append_assoc (map f xs) (f x ∷ []) ys)
 
 -- one more of what is told of each of a list, from its end on
 pub told_more : {A B : Type 0} (f : A → B) (all : List A) (told : List B) (n m i : ℕ) (x : A) (new : B) → new ≡ f x
     → slice_get all n ≡ Some x → n < length told → m ≡ n + 1 → i ≡ n → EachAt (λ k y. m ≤ k → slice_get told k ≡ Some (f y)) all
     → EachAt (λ k y. n ≤ k → slice_get (set told i new) k ≡ Some (f y)) all
-told_more f all told n m i x new is at within more here h k y its after =
-    told_one f all told n m i x new is at within more here h k y its after (ℕ_discrete k n)
+told_more f all told n m i x new is at within more here h k y its after = elim (ℕ_discrete k n) [
+  | yes same ↦
+      let e : slice_get all k ≡ Some x = ap (slice_get all) same ∙ at in
+      let one : x ≡ y = cc in
+      ap (slice_get (set told i new)) (same ∙ sym here) ∙ get-set_same told i new (omega (arith, within, here)) ∙ ap Some (is ∙ ap f one)
+  | no other ↦ get-set_other told i k new (λ e. other (e ∙ here)) ∙ h k y its (omega (arith, more, after, other))
+]
 
 -- a fault is told of no place that is past a number
 pub none_more : {A : Type 0} (told : List (Option A)) (n i : ℕ) (new : Option A) → i < n
     → ((k : ℕ) (x : A) → slice_get told k ≡ Some (Some x) → k < n) → (k : ℕ) (x : A) → slice_get (set told i new) k ≡ Some (Some x) → k < n
-none_more told n i new within h k x is =
-    ⊎_elim (λ (t : (k ≡ i) × (new ≡ Some x)). omega (arith, within, t.0)) (λ (t : (k ≢ i) × (slice_get told k ≡ Some (Some x))). h k x t.1)
-    (set_cases told i k new (Some x) is)
-
-pub take_same : {A : Type 0} (xs ys : List A) (n : ℕ) → n ≡ length xs → length ys ≡ length xs → take n (xs ++ drop (length xs) ys) ≡ xs
-take_same xs ys n is same = ap (λ (l : List _). take n (xs ++ l)) (drop_of_length-le ys {i = length xs} (omega (arith, same))) ∙
-    (ap (λ (l : List _). take n l) (append-nil xs) ∙ (ap (λ (m : ℕ). take m xs) is ∙ take-length xs))
-
-pub get_at : {A : Type 0} (xs : List A) (k : ℕ) → k < length xs → (x : A) × (slice_get xs k ≡ Some x)
-get_at [] k lt = absurd (omega (arith, lt))
-get_at (x ∷ xs) zero lt = (x, refl)
-get_at (x ∷ xs) (suc k) lt = get_at xs k (omega (arith, lt))
+none_more told n i new within h k x is = elim (get-set_cases told i k new (Some x) is) [
+  | inl here ↦ omega (arith, within, here)
+  | inr there ↦ h k x there
+]
 
 pub retired : {S : Type 0} (told : ToldBySource S) (Its : Pass Message View → Type 0)
     (carry : (p q : Pass Message View) → IsSamePass p q → Its p → Its q)
@@ -128,23 +78,17 @@ pub retired_works : {S : Type 0} (told : ToldBySource S) (Its : Pass Message Vie
     → EachAt (Retired told Its places) ys → EachAt (Works Its) ys
 retired_works told Its places ys h k y is = let r = h k y is in (r.its, ap (λ (v : View). v.pushes) r.sent.view)
 
-text_not_last : (s : Sent) (text : List ℕ) → HasText s text → is_last s ≡ false
-text_not_last (Line l) text h = refl
-text_not_last LongLine text h = refl
-text_not_last End text h = absurd h
-text_not_last ReadFault text h = absurd h
-text_not_last InputTooLong text h = absurd h
-
 -- behind the last entry of an operator nothing comes
-pub whole : (place n : ℕ) (es : List Message) (ls : List (List ℕ)) (last : Message) (xs ys : List Message) → HaveLines place n es ls
-    → xs ++ ys ≡ es ++ last ∷ []
-    → has_last xs ≡ true → ys ≡ []
+whole : (place n : ℕ) (es : List Message) (ls : List (List ℕ)) (last : Message) (xs ys : List Message) → HaveLines place n es ls
+    → xs ++ ys ≡ es ++ last ∷ [] → has_last xs ≡ true → ys ≡ []
 whole place n es ls last [] ys h e is = absurd (true≢false (sym is))
-whole place n [] ls last (x ∷ xs) ys h e is = none_behind xs ys (ap tail_of e)
+whole place n [] ls last (x ∷ xs) ys h e is = (none_both xs ys cc).1
 whole place n (k ∷ es) [] last (x ∷ xs) ys h e is = absurd h
 whole place n (k ∷ es) (l ∷ ls) last (x ∷ xs) ys h e is =
-    whole place (n + 1) es ls last xs ys h.1.1.1 (ap tail_of e)
-    (or_none (is_last x.sent) (has_last xs) (ap (λ (l : List Message). head_last l) e ∙ text_not_last k.sent l h.1.1.0) is)
+    let same : x ≡ k = cc in
+    let rest : xs ++ ys ≡ es ++ last ∷ [] = cc in
+    let none : is_last x.sent ≡ false = ap (λ (m : Message). is_last m.sent) same ∙ text_not_last k.sent l h.1.1.0 in
+    whole place (n + 1) es ls last xs ys h.1.1.1 rest (rw none at is)
 
 -- an operator's entries among what was popped are all that it pushed
 pub complete : {S : Type 0} (told : ToldBySource S) (Its : Pass Message View → Type 0) (places : List (Option S))
@@ -170,7 +114,8 @@ ready_all Its places xs h = all_at (λ (w : Operator _). HasSentNothing w) (Hire
 
 pub works_back : {A : Type 0} (R : A → A → Type 0) (xs ys : List A) (n : ℕ) → n ≡ length xs → AllZip R xs ys
     → take n (ys ++ drop (length ys) xs) ≡ ys
-works_back R xs ys n is z = let l = AllZip-long R xs ys z in take_same ys xs n (omega (arith, is, l)) (omega (arith, l))
+works_back R xs ys n is z =
+    ap (λ m. take m (ys ++ drop (length ys) xs)) (is ∙ sym (AllZip-long R xs ys z)) ∙ take-append_seam ys (drop (length ys) xs)
 
 pub after_release : {S : Type 0} (v e : View) (n : ℕ) (popped : List Message) (ws ys : List (Operator S)) → ws ≡ ys
     → e ≡ engine_view n popped [] → v ≡ record e { kept = map owned ws ++ e.kept } → v ≡ engine_view n popped (map owned ys ++ [])

@@ -46,30 +46,15 @@ impl QueueHeap {
         self.refusals
     }
 
-    /// What an engine waits by. An error comes where memory is refused.
-    pub(crate) fn parker(&mut self) -> Result<Parker, AllocError>
+    /// What an engine waits by and what wakes it, a queue without entries, and the engine's pass of it. An error comes where memory is
+    /// refused.
+    pub(crate) fn open(
+        &mut self,
+    ) -> Result<(Parker, Unparker, Queue, Pass<Message, View>), AllocError>
+        ensures made { IfOk result (λ made. IsPassOf made.2 made.3 × (view made.3 ≡ engine_view 0 [] [])) }
         ensures cause { HasCause self.old self.new result }
     {
-        let parker = Parker::new(self.alloc);
-        self.count(&parker);
-        parker
-    }
-
-    /// What wakes the engine that waits by this. An error comes where memory is refused.
-    pub(crate) fn unparker(&mut self, parker: &Parker) -> Result<Unparker, AllocError>
-        ensures cause { HasCause self.old self.new result }
-    {
-        let unparker: Result<_, _> = parker.unparker().clone();
-        self.count(&unparker);
-        unparker
-    }
-
-    /// A queue without entries, and the engine's pass of it. An error comes where memory is refused.
-    pub(crate) fn queue(&mut self) -> Result<(Queue, Pass<Message, View>), AllocError>
-        ensures made { IfOk result (λ made. IsPassOf made.0 made.1 × (view made.1 ≡ engine_view 0 [] [])) }
-        ensures cause { HasCause self.old self.new result }
-    {
-        let made = Queue::ruled(self.alloc, QUEUE_PLACES);
+        let made = made(self.alloc);
         self.count(&made);
         made
     }
@@ -82,4 +67,14 @@ impl QueueHeap {
             self.refusals = self.refusals.saturating_add(1);
         }
     }
+}
+
+/// As `open`, where nothing counts a refusal.
+fn made(alloc: Global) -> Result<(Parker, Unparker, Queue, Pass<Message, View>), AllocError>
+    ensures { IfOk result (λ made. IsPassOf made.2 made.3 × (view made.3 ≡ engine_view 0 [] [])) }
+{
+    let parker = Parker::new(alloc)?;
+    let waker = parker.unparker().clone()?;
+    let (queue, pass) = Queue::ruled(alloc, QUEUE_PLACES)?;
+    Ok((parker, waker, queue, pass))
 }

@@ -1,5 +1,5 @@
 use Rattle.lx_crew.proofs.Imports.{rules, ◌≡◌, ◌+◌, length, ap, sym, refl, ◌∙◌, subst, None, arith, length_push, view, View, HasSentLines}
-use Rattle.lx_crew.proofs.SentLines.{sent_none, sent_more, sent_all, sent_to_quit, next_number, goes_on, quits, ends_so}
+use Rattle.lx_crew.proofs.SentLines.{sent_none, sent_more, sent_all, sent_to_quit, next_number, took_before}
 use Rattle.lx_crew.proofs.operator.send_lines.Goals as goal
 
 pub loop-init : goal.loop-init
@@ -20,7 +20,7 @@ pub loop-preserved : goal.loop-preserved
 loop-preserved g c =
     let i = c.loop.invariant in
     let n = next_number _ _ _ _ _ i.so_far c.new-lines.ensures.number in
-    let line = goes_on _ _ _ c.take_next-sent.result c.take_next-sent.ensures.took (sym c.what_follows-after.ensures ∙ c.in-Lines.is) in
+    let line = took_before _ _ _ c.take_next-sent.result _ c.take_next-sent.ensures.took (sym c.what_follows-after.ensures ∙ c.in-Lines.is) in
     record {
       can = tt;
       finite = tt;
@@ -41,7 +41,7 @@ pub returns-in-End-clause-sent : goal.returns-in-End-clause-sent
 returns-in-End-clause-sent g c =
     let i = c.loop.invariant in
     let n = next_number _ _ _ _ _ i.so_far c.new-lines.ensures.number in
-    let quit = quits _ _ _ c.take_next-sent.result c.take_next-sent.ensures.took (sym c.what_follows-after.ensures ∙ c.in-End.is) in
+    let quit = took_before _ _ _ c.take_next-sent.result _ c.take_next-sent.ensures.took (sym c.what_follows-after.ensures ∙ c.in-End.is) in
     let same = c.source-in-End-1.given.1 (sym (c.take_next-sent.ensures.same_source ∙ (i.name ∙ c.new-lines.ensures.same_reference))) in
     subst (λ s. HasSentLines g.S.Source c.args.place c.args.source.now s (view c.send-in-End.new.pass) None) (sym same)
     (sent_to_quit _ c.args.place c.args.source.now c.new-lines.result c.loop.lines c.take_next-sent.new.lines (view c.loop.pass)
@@ -52,7 +52,7 @@ returns-in-End-clause-sent g c =
 pub returns-in-Nothing-clause-sent : goal.returns-in-Nothing-clause-sent
 returns-in-Nothing-clause-sent g c =
     let i = c.loop.invariant in
-    let end = ends_so _ _ _ c.take_next-sent.result c.in-Nothing.fault c.take_next-sent.ensures.took
+    let end = took_before _ _ _ c.take_next-sent.result _ c.take_next-sent.ensures.took
     (sym c.what_follows-after.ensures ∙ c.in-Nothing.is) in
     let same = c.in-Nothing.source-in-Nothing-1-own.given.1
     (sym (c.take_next-sent.ensures.same_source ∙ (i.name ∙ c.new-lines.ensures.same_reference))) in

@@ -2,7 +2,8 @@ use Rattle.lx_crew.proofs.Imports.{rules, ◌≡◌, ◌+◌, ◌<◌, ℕ, [], 
 use Rattle.lx_crew.proofs.Imports.{View, engine_view, operator_view, Hired}
 use Rattle.lx_crew.proofs.Rules.{forks}
 use Rattle.lx_base.proofs.Places.{each_snoc}
-use Rattle.lx_crew.proofs.Works.{get_else, some_there, not_none, source_is}
+use Rattle.lx_work.proofs.Places.{get-set_other}
+use Rattle.lx_crew.proofs.Works.{some_there, not_none, source_is}
 use Rattle.lx_crew.proofs.running.hire.Goals as goal
 
 made_more : (v w : View) (n : ℕ) → v ≡ engine_view n [] [] → w ≡ record v { made = v.made + 1 } → w ≡ engine_view (n + 1) [] []
@@ -43,5 +44,5 @@ loop-place-preserved g c =
         source = source_is c.loop-place.operators c.args.operators.now k x.result c.in-Some.source inside x.is (i.rest k (omega arith))
             (sym c.take.ensures.value ∙ c.in-Some.is);
       }));
-      rest = λ j after. get_else c.loop-place.operators k j _ (λ e. omega (arith, after, e)) ∙ i.rest j (omega (arith, after));
+      rest = λ j after. get-set_other c.loop-place.operators k j _ (λ e. omega (arith, after, e)) ∙ i.rest j (omega (arith, after));
     }
