@@ -1,7 +1,7 @@
 -- The engine's steps: a command is admitted, accepted and published.
 use Rattle.lx_workers.proofs.Imports.{◌≡◌, ◌+◌, ◌-◌, ◌^◌, ◌<◌, ℕ, true, List, [], ◌∷◌, ◌++◌, length, length-append, sym, ap}
 use Rattle.lx_workers.proofs.Imports.{◌∙◌, subst, arith, Command, Show, replay, Kept, Published, IsInStep, accepted_of, leaves_room}
-use Rattle.lx_workers.proofs.Imports.{Result, Ok, Err, OnOk, HasCause, HasStood, SendsAll}
+use Rattle.lx_workers.proofs.Imports.{Result, Ok, Err, OnOk, HasCause, SendsAll}
 use Rattle.std.proofs.lemmas.Bool.Decides.{nat_tests}
 use Rattle.lx_session.specs.Attempts.{AcceptedStep}
 use Rattle.lx_gate.proofs.DeskSteps.{in_step_push}

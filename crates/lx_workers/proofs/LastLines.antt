@@ -1,10 +1,10 @@
 -- The last line of a worker, after the last note.
 use Rattle.lx_workers.proofs.Imports.{◌≡◌, ℕ, List, [], ◌∷◌, length, Option, Some, true, inl, sym, ap, ◌∙◌, subst, arith, is_some, Appends}
-use Rattle.lx_workers.proofs.Imports.{IsPrefix, SinkFault, Command, Show, IsChained, Told, Tapped, newest, HasLearnt, prefix_trans, prefix_whole}
+use Rattle.lx_workers.proofs.Imports.{IsPrefix, Command, Show, IsChained, Told, Tapped, newest, HasLearnt, prefix_self, prefix_whole}
 use Rattle.lx_workers.proofs.Imports.{Served, outlet_text, Falling, newest_count, HasWritten, HasWrittenPart, HasServed, HasPutNewest, HasAll}
 use Rattle.lx_workers.proofs.Imports.{Delivered, ToldBySink}
-use Rattle.lx_workers.proofs.WrittenLines.{goes_on, part_on}
-use Rattle.lx_workers.proofs.TapSteps.{learnt_begins, count_on}
+use Rattle.lx_workers.proofs.TapSteps.{learnt_begins}
+use Rattle.lx_workers.proofs.WorkerSteps.{served_on}
 
 all_at : (show : Show) (u : ℕ) (before after : Option (List ℕ)) (top : List Command) (lists : List (List Command))
     → Appends before after (outlet_text show u lists) → Falling top lists → Some (length top) ≡ newest_count lists → HasAll show u before after top
@@ -24,24 +24,11 @@ pub served_learnt : {K : Type 0} (told : ToldBySink K) (show : Show) (start tap 
     → HasServed told show start tap from sink served → HasLearnt tap.told tap'.told list
     → IsChained tap'.told.seen tap'.told.learnt → tap'.universe ≡ tap.universe → HasServed told show start tap' from sink served
 served_learnt told show start tap tap' from sink served list h l chained u =
-    let p : IsPrefix (newest tap.told) (newest tap'.told) = learnt_begins tap.told tap'.told list l chained in
-    record {
-      written = λ e. goes_on show start.universe (told.holds from) (told.holds sink) (newest tap.told) (newest tap'.told) served.taken served.last p
-          (h.written e);
-      part = λ f e. part_on told show start.universe from sink (newest tap.told) (newest tap'.told) f p (h.part f e);
-      cause = h.cause;
-      handed_on = h.handed_on;
-      seen = subst (λ (w : List Command). IsPrefix start.told.seen w) (sym (ap (λ (t : Told). t.seen) l.rest)) h.seen;
-      takes =
-          let reads = ap (λ (t : Told). t.reads) l.rest in
-          let misses = ap (λ (t : Told). t.misses) l.rest in
-          let before = h.takes in
-          omega (arith, before, reads, misses);
-      goes_on = prefix_trans (newest start.told) (newest tap.told) (newest tap'.told) h.goes_on p;
-      same_universe = u ∙ h.same_universe;
-      reads = count_on start.told.reads tap.told.reads tap'.told.reads h.reads (inl (ap (λ (t : Told). t.reads) l.rest));
-      misses = count_on start.told.misses tap.told.misses tap'.told.misses h.misses (inl (ap (λ (t : Told). t.misses) l.rest));
-    }
+    let reads : tap'.told.reads ≡ tap.told.reads = ap (λ (t : Told). t.reads) l.rest in
+    let misses : tap'.told.misses ≡ tap.told.misses = ap (λ (t : Told). t.misses) l.rest in
+    served_on told show start tap tap' from sink served served.takes u (learnt_begins tap.told tap'.told list l chained)
+    (subst (λ (w : List Command). IsPrefix tap.told.seen w) (sym (ap (λ (t : Told). t.seen) l.rest)) (prefix_self tap.told.seen))
+    (inl reads) (inl misses) (λ before. omega (arith, before, reads, misses)) h
 
 -- the outlet had failed before
 pub delivered_part : {K : Type 0} (told : ToldBySink K) (show : Show) (start tap : Tapped) (from sink : K) (served : Served) (list : List Command)

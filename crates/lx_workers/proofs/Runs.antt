@@ -1,5 +1,5 @@
 -- A session whose accepted commands are published, from the opening to its end.
-use Rattle.lx_workers.proofs.Imports.{◌≡◌, ◌≤◌, ℕ, Bool, true, false, ◌&&◌, List, [], ◌++◌, Option, Some, None, Result, Ok, Err, IfSome, IsSomeAnd}
+use Rattle.lx_workers.proofs.Imports.{◌≡◌, ◌≤◌, ℕ, Bool, true, false, ◌&&◌, List, [], ◌++◌, Option, Some, None, Result, IfSome, IsSomeAnd}
 use Rattle.lx_workers.proofs.Imports.{refl, sym, ap, ◌∙◌, subst, arith, append-nil, Command, Show, Desk, opened, Kept, Published, IsInStep, accepted_of}
 use Rattle.lx_workers.proofs.Imports.{leaves_room, engine_answering, HasAccepted, HasRun, SendsAll, HasStood, ToldBySink}
 use Rattle.lx_lex.specs.declared.lines.Lines.{Lines}

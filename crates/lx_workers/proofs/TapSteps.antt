@@ -1,5 +1,5 @@
 -- What a tap keeps grows.
-use Rattle.lx_workers.proofs.Imports.{◌≡◌, ℕ, ◌⊎◌, inl, inr, ⊎_elim, ◌≤◌, ◌+◌, ◌-◌, ◌^◌, min, Bool, true, false, cond, ltb}
+use Rattle.lx_workers.proofs.Imports.{◌≡◌, ℕ, ◌⊎◌, inl, inr, ⊎_elim, Bool, true, false, cond, ltb}
 use Rattle.lx_workers.proofs.Imports.{List, length, sym, ap, subst, arith, IsPrefix, Rose, one_more, Command, longest, IsChained, Told, newest, HasReadOn}
 use Rattle.lx_workers.proofs.Imports.{HasMissed, HasLearnt, prefix_self, prefix_trans, HasLooked, HasTakenTimes, RoseOrSame}
 

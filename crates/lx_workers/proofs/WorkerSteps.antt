@@ -1,25 +1,12 @@
 -- A step of a worker: one take, and perhaps a line.
-use Rattle.lx_workers.proofs.Imports.{◌≡◌, ℕ, ◌<◌, ◌≤◌, ◌+◌, ◌-◌, ◌^◌, min, List, [], length, Option, Some, None, Err, IfSome}
+use Rattle.lx_workers.proofs.Imports.{◌≡◌, ℕ, ◌<◌, ◌≤◌, ◌+◌, ◌-◌, ◌^◌, min, List, [], length, Option, Some, None, Result, Ok, Err, IfSome}
 use Rattle.lx_workers.proofs.Imports.{IsSomeAnd, inl, refl, sym, ap, ◌∙◌, subst, arith, IsPrefix, Appends, SinkFault, one_more, HasSinkCause, Puts}
 use Rattle.lx_workers.proofs.Imports.{same_Some, Show, Stamp, IsFrame, Tapped, newest, prefix_self, prefix_trans, Served, stamped_line, HasFault}
-use Rattle.lx_workers.proofs.Imports.{HasWrittenPart, HasServed, HasStepped, HasPutNewest, HasTakenTimes, ToldBySink}
+use Rattle.lx_workers.proofs.Imports.{HasWrittenPart, HasServed, HasStepped, HasPutNewest, HasTakenTimes, RoseOrSame, ToldBySink}
+use Rattle.std.specs.Result.{result_err}
 use Rattle.lx_io.specs.declared.sink.SinkFault.TheVariants.{Failed, Memory}
 use Rattle.lx_workers.proofs.WrittenLines.{goes_on, part_on, adds_line, adds_part, last_stays, none_written}
 use Rattle.lx_workers.proofs.TapSteps.{HasTaken, count_on, takes_on}
-
--- no fault behind none
-pub fault_none : {S : Type 0} (told : ToldBySink S) (a b c : S) → HasFault told a b None → told.faults c ≡ told.faults b → told.wants c
-    ≡ told.wants b
-    → HasFault told a c None
-fault_none told a b c h l w =
-    let same = h.kept refl in
-    record {
-      later = omega (arith, h.later, l);
-      wants_later = omega (arith, h.wants_later, w);
-      failed = λ e. cc;
-      memory = λ e. cc;
-      kept = λ e. (l ∙ same.0, w ∙ same.1);
-    }
 
 -- a fault behind none
 pub fault_then : {S : Type 0} (told : ToldBySink S) (a b c : S) (fault : Option SinkFault) → HasFault told a b None
@@ -32,10 +19,17 @@ fault_then told a b c fault h k = record {
   kept = λ e. let same = h.kept refl in let then = k.kept e in (then.0 ∙ same.0, then.1 ∙ same.1);
 }
 
--- the sink's own fault
-fault_is : {S : Type 0} (told : ToldBySink S) (a b : S) (fault : SinkFault) → HasSinkCause {T = Unit {0}} told a b (Err fault)
-    → HasFault told a b (Some fault)
-fault_is told a b fault k = record {
+-- the sink's own fault, if there was one
+fault_of : {S : Type 0} (told : ToldBySink S) (a b : S) (result : Result (Unit {0}) SinkFault) → HasSinkCause told a b result
+    → HasFault told a b (result_err result)
+fault_of told a b (Ok u) k = record {
+  later = k.later;
+  wants_later = k.wants_later;
+  failed = λ e. cc;
+  memory = λ e. cc;
+  kept = λ e. k.kept;
+}
+fault_of told a b (Err fault) k = record {
   later = k.later;
   wants_later = k.wants_later;
   failed = λ e. k.failed (same_Some fault Failed e);
@@ -59,36 +53,40 @@ served_none told show tap sink = record {
   misses = inl refl;
 }
 
--- a take, before its line
-served_taken : {K : Type 0} (told : ToldBySink K) (show : Show) (start tap tap' : Tapped) (from sink : K) (served : Served) (takes : ℕ)
-    → takes ≡ one_more served.takes → tap'.universe ≡ tap.universe → IsPrefix (newest tap.told) (newest tap'.told) → HasTaken tap.told tap'.told
+-- what was served up to a tap is served up to a later one
+pub served_on : {K : Type 0} (told : ToldBySink K) (show : Show) (start tap tap' : Tapped) (from sink : K) (served : Served) (takes : ℕ)
+    → tap'.universe ≡ tap.universe → IsPrefix (newest tap.told) (newest tap'.told) → IsPrefix tap.told.seen tap'.told.seen
+    → RoseOrSame tap.told.reads tap'.told.reads → RoseOrSame tap.told.misses tap'.told.misses
+    → (HasTakenTimes start.told tap.told served.takes → HasTakenTimes start.told tap'.told takes)
     → HasServed told show start tap from sink served → HasServed told show start tap' from sink (record served { takes = takes })
-served_taken told show start tap tap' from sink served takes is u p t h = record {
+served_on told show start tap tap' from sink served takes u p seen reads misses asked h = record {
   written = λ e. goes_on show start.universe (told.holds from) (told.holds sink) (newest tap.told) (newest tap'.told) served.taken served.last p
       (h.written e);
   part = λ f e. part_on told show start.universe from sink (newest tap.told) (newest tap'.told) f p (h.part f e);
   cause = h.cause;
   handed_on = h.handed_on;
   goes_on = prefix_trans (newest start.told) (newest tap.told) (newest tap'.told) h.goes_on p;
-  seen = prefix_trans start.told.seen tap.told.seen tap'.told.seen h.seen t.seen;
-  takes = subst (λ (n : ℕ). HasTakenTimes start.told tap'.told n) (sym is) (takes_on start.told tap.told tap'.told served.takes h.takes t);
+  seen = prefix_trans start.told.seen tap.told.seen tap'.told.seen h.seen seen;
+  takes = asked h.takes;
   same_universe = u ∙ h.same_universe;
-  reads = count_on start.told.reads tap.told.reads tap'.told.reads h.reads t.reads;
-  misses = count_on start.told.misses tap.told.misses tap'.told.misses h.misses t.misses;
+  reads = count_on start.told.reads tap.told.reads tap'.told.reads h.reads reads;
+  misses = count_on start.told.misses tap.told.misses tap'.told.misses h.misses misses;
 }
 
 -- a take, and the line of what was taken
 pub stepped : {K : Type 0} (told : ToldBySink K) (show : Show) (tap tap' : Tapped) (sink sink' : K) (served served' : Served) (takes : ℕ)
     → takes ≡ one_more served.takes → tap'.universe ≡ tap.universe → IsPrefix (newest tap.told) (newest tap'.told) → HasTaken tap.told tap'.told
     → HasPutNewest told show tap' sink sink' (record served { takes = takes }) served' → HasStepped told show tap tap' sink sink' served served'
-stepped told show tap tap' sink sink' served served' takes is u p t put = record {
-  serves = λ start from h. put.serves start from (served_taken told show start tap tap' from sink served takes is u p t h);
-  goes_on = p;
-  seen = t.seen;
-  same_learnt = t.learnt;
-  takes = put.takes ∙ is;
-  last = λ start from h e. put.last start from (served_taken told show start tap tap' from sink served takes is u p t h) e;
-}
+stepped {K} told show tap tap' sink sink' served served' takes is u p t put =
+    let on = λ (start : Tapped) (from : K). served_on told show start tap tap' from sink served takes u p t.seen t.reads t.misses
+    (λ h. subst (λ (n : ℕ). HasTakenTimes start.told tap'.told n) (sym is) (takes_on start.told tap.told tap'.told served.takes h t)) in record {
+      serves = λ start from h. put.serves start from (on start from h);
+      goes_on = p;
+      seen = t.seen;
+      same_learnt = t.learnt;
+      takes = put.takes ∙ is;
+      last = λ start from h e. put.last start from (on start from h) e;
+    }
 
 -- the tap keeps nothing newer than the last line
 pub put_none : {K : Type 0} (told : ToldBySink K) (show : Show) (tap : Tapped) (sink : K) (served : Served) (count : ℕ)
@@ -97,62 +95,60 @@ pub put_none : {K : Type 0} (told : ToldBySink K) (show : Show) (tap : Tapped) (
 put_none told show tap sink served count none is stale = record {
   serves = λ start from h. h;
   takes = refl;
-  last = λ start from h e. last_stays show start.universe (told.holds from) (told.holds sink) (newest tap.told) (newest tap.told) served.taken
-      served.last count (prefix_self (newest tap.told)) is stale (h.written none);
+  last = λ start from h e. last_stays show start.universe (told.holds from) (told.holds sink) (newest tap.told) served.taken served.last count is stale
+      (h.written none);
 }
 
--- it does, and its line was written
-pub put_whole : {K : Type 0} (told : ToldBySink K) (show : Show) (tap : Tapped) (sink sink' : K) (served : Served) (slots : List ℕ) (stamp : Stamp)
-    → served.fault ≡ None → IsFrame show (newest tap.told) tap.universe slots stamp → IfSome served.last (λ n. n < stamp.count)
-    → Appends (told.holds sink) (told.holds sink') (stamped_line tap.universe slots stamp) → told.faults sink' ≡ told.faults sink
-    → told.wants sink' ≡ told.wants sink → told.back sink' ≡ []
-    → HasPutNewest told show tap sink sink' served (record served { taken = min (served.taken + 1) (2 ^ 64 - 1); last = Some stamp.count })
-put_whole told show tap sink sink' served slots stamp none frame fresh text kept wants_kept handed_on = record {
-  serves = λ start from h. record {
-    written = λ e. adds_line show start.universe (told.holds from) (told.holds sink) (told.holds sink') (newest tap.told) (newest tap.told) served.taken
-        served.last slots stamp (prefix_self (newest tap.told))
-        (subst (λ (n : ℕ). IsFrame show (newest tap.told) n slots stamp) h.same_universe frame)
-        (subst (λ (n : ℕ). Appends (told.holds sink) (told.holds sink') (stamped_line n slots stamp)) h.same_universe text) fresh (h.written none);
-    part = λ f e. cc;
-    cause = subst (λ (o : Option SinkFault). HasFault told from sink' o) (sym none)
-        (fault_none told from sink sink' (subst (λ (o : Option SinkFault). HasFault told from sink o) none h.cause) kept
-        wants_kept);
-    handed_on = λ count e last. handed_on;
-    goes_on = h.goes_on;
-    seen = h.seen;
-    takes = h.takes;
-    same_universe = h.same_universe;
-    reads = h.reads;
-    misses = h.misses;
-  };
-  takes = refl;
-  last = λ start from h e. ap (λ (n : ℕ). Some n) frame.count_is;
-}
+-- it does, and its line was put: it was written, or the sink failed in it
+module _ {K : Type 0} (told : ToldBySink K) (show : Show) (tap : Tapped) (sink sink' : K) (served : Served) (slots : List ℕ) (stamp : Stamp)
+    (none : served.fault ≡ None) (frame : IsFrame show (newest tap.told) tap.universe slots stamp)
+    (fresh : IfSome served.last (λ n. n < stamp.count)) where
+  fault_now : (from : K) (result : Result (Unit {0}) SinkFault) → HasFault told from sink served.fault → HasSinkCause told sink sink' result
+      → HasFault told from sink' (result_err result)
+  fault_now from result before cause = fault_then told from sink sink' (result_err result)
+      (subst (λ (o : Option SinkFault). HasFault told from sink o) none before) (fault_of told sink sink' result cause)
 
--- it does, and the sink failed in its line
-pub put_part : {K : Type 0} (told : ToldBySink K) (show : Show) (tap : Tapped) (sink sink' : K) (served : Served) (slots : List ℕ) (stamp : Stamp)
-    (fault : SinkFault) → served.fault ≡ None → IsFrame show (newest tap.told) tap.universe slots stamp → IfSome served.last (λ n. n < stamp.count)
-    → Puts {T = Unit {0}} told sink sink' (Err fault) (stamped_line tap.universe slots stamp)
-    → HasPutNewest told show tap sink sink' served (record served { fault = Some fault })
-put_part told show tap sink sink' served slots stamp fault none frame fresh puts = record {
-  serves = λ start from h. record {
-    written = λ e. cc;
-    part = λ f e. subst (λ (g : SinkFault). HasWrittenPart told show start.universe from sink' (newest tap.told) g) (same_Some fault f e)
-        (adds_part told show start.universe from sink sink' (newest tap.told) (newest tap.told) served.taken served.last
-        slots stamp fault (prefix_self (newest tap.told))
-        (subst (λ (n : ℕ). IsFrame show (newest tap.told) n slots stamp) h.same_universe frame)
-        (subst (λ (n : ℕ). Puts {T = Unit {0}} told sink sink' (Err fault) (stamped_line n slots stamp)) h.same_universe puts) fresh
-        (h.written none));
-    cause = fault_then told from sink sink' (Some fault) (subst (λ (o : Option SinkFault). HasFault told from sink o) none h.cause)
-        (fault_is told sink sink' fault puts.cause);
-    handed_on = λ count e last. cc;
-    goes_on = h.goes_on;
-    seen = h.seen;
-    takes = h.takes;
-    same_universe = h.same_universe;
-    reads = h.reads;
-    misses = h.misses;
-  };
-  takes = refl;
-  last = λ start from h e. cc;
-}
+  pub put_whole : Puts {T = Unit {0}} told sink sink' (Ok tt) (stamped_line tap.universe slots stamp) → told.back sink' ≡ []
+      → HasPutNewest told show tap sink sink' served (record served { taken = min (served.taken + 1) (2 ^ 64 - 1); last = Some stamp.count })
+  put_whole puts handed_on = record {
+    serves = λ start from h. record {
+      written = λ e. adds_line show start.universe (told.holds from) (told.holds sink) (told.holds sink') (newest tap.told) served.taken
+          served.last slots stamp (subst (λ (n : ℕ). IsFrame show (newest tap.told) n slots stamp) h.same_universe frame)
+          (subst (λ (n : ℕ). Appends (told.holds sink) (told.holds sink') (stamped_line n slots stamp)) h.same_universe puts.whole) fresh
+          (h.written none);
+      part = λ f e. cc;
+      cause = subst (λ (o : Option SinkFault). HasFault told from sink' o) (sym none) (fault_now from (Ok tt) h.cause puts.cause);
+      handed_on = λ count e last. handed_on;
+      goes_on = h.goes_on;
+      seen = h.seen;
+      takes = h.takes;
+      same_universe = h.same_universe;
+      reads = h.reads;
+      misses = h.misses;
+    };
+    takes = refl;
+    last = λ start from h e. ap (λ (n : ℕ). Some n) frame.count_is;
+  }
+
+  pub put_part : (fault : SinkFault) → Puts {T = Unit {0}} told sink sink' (Err fault) (stamped_line tap.universe slots stamp)
+      → HasPutNewest told show tap sink sink' served (record served { fault = Some fault })
+  put_part fault puts = record {
+    serves = λ start from h. record {
+      written = λ e. cc;
+      part = λ f e. subst (λ (g : SinkFault). HasWrittenPart told show start.universe from sink' (newest tap.told) g) (same_Some fault f e)
+          (adds_part told show start.universe from sink sink' (newest tap.told) served.taken served.last slots stamp fault
+          (subst (λ (n : ℕ). IsFrame show (newest tap.told) n slots stamp) h.same_universe frame)
+          (subst (λ (n : ℕ). Puts {T = Unit {0}} told sink sink' (Err fault) (stamped_line n slots stamp)) h.same_universe puts) fresh
+          (h.written none));
+      cause = fault_now from (Err fault) h.cause puts.cause;
+      handed_on = λ count e last. cc;
+      goes_on = h.goes_on;
+      seen = h.seen;
+      takes = h.takes;
+      same_universe = h.same_universe;
+      reads = h.reads;
+      misses = h.misses;
+    };
+    takes = refl;
+    last = λ start from h e. cc;
+  }

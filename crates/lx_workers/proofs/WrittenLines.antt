@@ -5,23 +5,19 @@ use Rattle.lx_workers.proofs.Imports.{reverse-cons, Appends, Keeps, SinkFault, A
 use Rattle.lx_workers.proofs.Imports.{Stamp, IsFrame, prefix_self, prefix_trans, prefix_length, Older, Falling, newest_count, HasWritten, HasWrittenPart}
 use Rattle.lx_workers.proofs.Imports.{ToldBySink}
 use Rattle.std.proofs.KnownBytes.{Appends-nil, Appends-trans, Appends-kept}
-use Rattle.std.proofs.Math.Seq.{take-append-add, take-length}
+use Rattle.std.proofs.Math.Seq.{take-append-add}
 use Rattle.std.proofs.lemmas.Grind.{flat_map-append}
-use Rattle.lx_io.proofs.Chain.{AppendsFront-is, AppendsFront-from}
+use Rattle.lx_io.proofs.Chain.{AppendsFront-is, AppendsFront-from, Puts-is, Puts-then}
 use Rattle.lx_gate.specs.Frames.{frame_after, moment_after}
 use Rattle.lx_spec.specs.Versions.{outlet_text}
 use Rattle.lx_workers.specs.Lines.{stamped_line}
-
-versions-append : (show : Show) (u : ℕ) (xs ys : List (List Command))
-    → versions_text show u (xs ++ ys) ≡ versions_text show u xs ++ versions_text show u ys
-versions-append show u xs ys = flat_map-append (version_text show u) xs ys
 
 -- the line of the newest comes last
 lines-newest : (show : Show) (u : ℕ) (list : List Command) (lists : List (List Command))
     → outlet_text show u (list ∷ lists) ≡ outlet_text show u lists ++ version_text show u list
 unfolding outlet_text
 lines-newest show u list lists = ap (versions_text show u) (reverse-cons list lists)
-    ∙ (versions-append show u (reverse lists) (list ∷ [])
+    ∙ (flat_map-append (version_text show u) (reverse lists) (list ∷ [])
     ∙ ap (λ w. versions_text show u (reverse lists) ++ w) (append-nil (version_text show u list)))
 
 -- the line of a version
@@ -41,33 +37,29 @@ pub goes_on : (show : Show) (u : ℕ) (before after : Option (List ℕ)) (top to
 goes_on show u before after top top' taken last p h =
     record { lists = h.lists; text = h.text; chain = falls_on top top' p h.lists h.chain; taken_is = h.taken_is; last_is = h.last_is }
 
-newer : (top top' : List Command) (last : Option ℕ) (lists : List (List Command)) → IsPrefix top top' → Falling top lists
-    → last ≡ newest_count lists → IfSome last (λ n. n < length top') → Older top' lists
-newer top top' last [] p h e f = tt
-newer top top' last (list ∷ lists) p h e f =
-    let g : IfSome (newest_count (list ∷ lists)) (λ n. n < length top') = subst (λ (o : Option ℕ). IfSome o (λ n. n < length top')) e f in
-    (prefix_trans list top top' h.0 p, g, h.1)
+newer : (top : List Command) (last : Option ℕ) (lists : List (List Command)) → Falling top lists → last ≡ newest_count lists
+    → IfSome last (λ n. n < length top) → Older top lists
+newer top last [] h e f = tt
+newer top last (list ∷ lists) h e f = (h.0, subst (λ (o : Option ℕ). IfSome o (λ n. n < length top)) e f, h.1)
 
-chain_on : (show : Show) (u : ℕ) (before after : Option (List ℕ)) (top top' : List Command) (taken : ℕ) (last : Option ℕ) (count : ℕ)
-    → IsPrefix top top'
-    → count ≡ length top' → IfSome last (λ n. n < count) → (h : HasWritten show u before after top taken last)
-    → Falling top' (top' ∷ h.lists)
-chain_on show u before after top top' taken last count p is fresh h =
-    (prefix_self top', newer top top' last h.lists p h.chain h.last_is (subst (λ (n : ℕ). IfSome last (λ m. m < n)) is fresh))
+chain_on : (show : Show) (u : ℕ) (before after : Option (List ℕ)) (top : List Command) (taken : ℕ) (last : Option ℕ) (count : ℕ)
+    → count ≡ length top → IfSome last (λ n. n < count) → (h : HasWritten show u before after top taken last) → Falling top (top ∷ h.lists)
+chain_on show u before after top taken last count is fresh h =
+    (prefix_self top, newer top last h.lists h.chain h.last_is (subst (λ (n : ℕ). IfSome last (λ m. m < n)) is fresh))
 
 -- the line of a longer list was added
-pub adds_line : (show : Show) (u : ℕ) (before after after' : Option (List ℕ)) (top top' : List Command) (taken : ℕ) (last : Option ℕ)
-    (slots : List ℕ) (stamp : Stamp) → IsPrefix top top'
-    → IsFrame show top' u slots stamp → Appends after after' (stamped_line u slots stamp) → IfSome last (λ n. n < stamp.count)
-    → HasWritten show u before after top taken last → HasWritten show u before after' top' (min (taken + 1) (2 ^ 64 - 1)) (Some stamp.count)
-adds_line show u before after after' top top' taken last slots stamp p frame is fresh h =
-    let added : Appends after after' (version_text show u top') =
-    subst (λ (w : List ℕ). Appends after after' w) (line_is show u top' slots stamp frame) is in
+pub adds_line : (show : Show) (u : ℕ) (before after after' : Option (List ℕ)) (top : List Command) (taken : ℕ) (last : Option ℕ)
+    (slots : List ℕ) (stamp : Stamp) → IsFrame show top u slots stamp → Appends after after' (stamped_line u slots stamp)
+    → IfSome last (λ n. n < stamp.count) → HasWritten show u before after top taken last
+    → HasWritten show u before after' top (min (taken + 1) (2 ^ 64 - 1)) (Some stamp.count)
+adds_line show u before after after' top taken last slots stamp frame is fresh h =
+    let added : Appends after after' (version_text show u top) =
+    subst (λ (w : List ℕ). Appends after after' w) (line_is show u top slots stamp frame) is in
     record {
-      lists = top' ∷ h.lists;
-      text = subst (λ (w : List ℕ). Appends before after' w) (sym (lines-newest show u top' h.lists))
-          (Appends-trans before after after' (outlet_text show u h.lists) (version_text show u top') h.text added);
-      chain = chain_on show u before after top top' taken last stamp.count p frame.count_is fresh h;
+      lists = top ∷ h.lists;
+      text = subst (λ (w : List ℕ). Appends before after' w) (sym (lines-newest show u top h.lists))
+          (Appends-trans before after after' (outlet_text show u h.lists) (version_text show u top) h.text added);
+      chain = chain_on show u before after top taken last stamp.count frame.count_is fresh h;
       taken_is = omega (arith, h.taken_is);
       last_is = ap (λ (n : ℕ). Some n) frame.count_is;
     }
@@ -86,19 +78,18 @@ front_of show u before after after' list lists h k =
     (subst (λ (w : List ℕ). Appends before after' w) (sym (take-append-add lines (version_text show u list) front.0)) text))
 
 -- a part of the line was added, and then the sink had a fault
-pub adds_part : {K : Type 0} (told : ToldBySink K) (show : Show) (u : ℕ) (from sink sink' : K)
-    (top top' : List Command) (taken : ℕ) (last : Option ℕ) (slots : List ℕ) (stamp : Stamp) (fault : SinkFault)
-    → IsPrefix top top' → IsFrame show top' u slots stamp
+pub adds_part : {K : Type 0} (told : ToldBySink K) (show : Show) (u : ℕ) (from sink sink' : K) (top : List Command) (taken : ℕ)
+    (last : Option ℕ) (slots : List ℕ) (stamp : Stamp) (fault : SinkFault) → IsFrame show top u slots stamp
     → Puts {T = Unit {0}} told sink sink' (Err fault) (stamped_line u slots stamp) → IfSome last (λ n. n < stamp.count)
-    → HasWritten show u (told.holds from) (told.holds sink) top taken last → HasWrittenPart told show u from sink' top' fault
-adds_part {K = K} told show u from sink sink' top top' taken last slots stamp fault p frame is fresh h =
-    let stopped : Puts {T = Unit {0}} told sink sink' (Err fault) (version_text show u top') =
-    subst (λ (w : List ℕ). Puts {T = Unit {0}} told sink sink' (Err fault) w) (line_is show u top' slots stamp frame) is in
+    → HasWritten show u (told.holds from) (told.holds sink) top taken last → HasWrittenPart told show u from sink' top fault
+adds_part told show u from sink sink' top taken last slots stamp fault frame is fresh h =
+    let stopped : Puts {T = Unit {0}} told sink sink' (Err fault) (version_text show u top) =
+    subst (λ (w : List ℕ). Puts {T = Unit {0}} told sink sink' (Err fault) w) (line_is show u top slots stamp frame) is in
     record {
-      newest = top';
+      newest = top;
       earlier = h.lists;
-      chain = chain_on show u (told.holds from) (told.holds sink) top top' taken last stamp.count p frame.count_is fresh h;
-      text = front_of show u (told.holds from) (told.holds sink) (told.holds sink') top' h.lists h.text stopped.part;
+      chain = chain_on show u (told.holds from) (told.holds sink) top taken last stamp.count frame.count_is fresh h;
+      text = front_of show u (told.holds from) (told.holds sink) (told.holds sink') top h.lists h.text stopped.part;
       last = sink;
       whole = h.text;
       stopped = stopped;
@@ -122,46 +113,35 @@ pub none_written : (show : Show) (u : ℕ) (before : Option (List ℕ)) (top : L
 unfolding outlet_text
 none_written show u before top = record { lists = []; text = Appends-nil before; chain = tt; taken_is = refl; last_is = refl }
 
-whole : (top top' : List Command) (last : Option ℕ) (lists : List (List Command)) (count : ℕ) → IsPrefix top top' → Falling top lists
-    → last ≡ newest_count lists → count ≡ length top'
-    → IsSomeAnd last (λ n. count ≤ n) → last ≡ Some (length top')
-whole top top' last [] count p h e c k = absurd (subst (λ (o : Option ℕ). IsSomeAnd o (λ n. count ≤ n)) e k)
-whole top top' last (list ∷ lists) count p h e c k =
-    let at : IsSomeAnd (newest_count (list ∷ lists)) (λ n. count ≤ n) = subst (λ (o : Option ℕ). IsSomeAnd o (λ n. count ≤ n)) e k in
-    let le : count ≤ length list = at in
-    let same : length list ≡ length top' = omega (arith, le, c, prefix_length list top h.0, prefix_length top top' p) in
+whole : (top : List Command) (last : Option ℕ) (lists : List (List Command)) (count : ℕ) → Falling top lists → last ≡ newest_count lists
+    → count ≡ length top → IsSomeAnd last (λ n. count ≤ n) → last ≡ Some (length top)
+whole top last [] count h e c k = absurd (subst (λ (o : Option ℕ). IsSomeAnd o (λ n. count ≤ n)) e k)
+whole top last (list ∷ lists) count h e c k =
+    let le : count ≤ length list = subst (λ (o : Option ℕ). IsSomeAnd o (λ n. count ≤ n)) e k in
+    let same : length list ≡ length top = omega (arith, le, c, prefix_length list top h.0) in
     e ∙ ap (λ (n : ℕ). Some n) same
 
 -- where nothing newer was taken, the last line is that of the newest list
-pub last_stays : (show : Show) (u : ℕ) (before after : Option (List ℕ)) (top top' : List Command) (taken : ℕ) (last : Option ℕ) (count : ℕ)
-    → IsPrefix top top' → count ≡ length top'
-    → IsSomeAnd last (λ n. count ≤ n) → HasWritten show u before after top taken last → last ≡ Some (length top')
-last_stays show u before after top top' taken last count p c k h = whole top top' last h.lists count p h.chain h.last_is c k
+pub last_stays : (show : Show) (u : ℕ) (before after : Option (List ℕ)) (top : List Command) (taken : ℕ) (last : Option ℕ) (count : ℕ)
+    → count ≡ length top → IsSomeAnd last (λ n. count ≤ n) → HasWritten show u before after top taken last → last ≡ Some (length top)
+last_stays show u before after top taken last count c k h = whole top last h.lists count h.chain h.last_is c k
+
+-- a flush puts nothing more
+flushed : {K U : Type 0} (told : ToldBySink K) (a b : K) (r : Result U SinkFault) → Keeps (told.holds a) (told.holds b)
+    → HasSinkCause told a b r → Puts told a b r []
+flushed told a b (Ok u) kept cause = record {
+  whole = Appends-kept (told.holds a) (told.holds a) (told.holds b) [] (Appends-nil (told.holds a)) kept;
+  part = tt;
+  cause = cause;
+}
+flushed told a b (Err e) kept cause = record {
+  whole = tt;
+  part = AppendsFront-from (told.holds a) (told.holds b) [] 0
+      (Appends-kept (told.holds a) (told.holds a) (told.holds b) [] (Appends-nil (told.holds a)) kept);
+  cause = cause;
+}
 
 -- a text was put, and the sink flushed
 pub puts_flushed : {K T U : Type 0} (told : ToldBySink K) (a b c : K) (t : T) (r : Result U SinkFault)
     (text : List ℕ) → Puts told a b (Ok t) text → Keeps (told.holds b) (told.holds c) → HasSinkCause told b c r → Puts told a c r text
-puts_flushed told a b c t (Ok u) text p kept cause = record {
-  whole = Appends-kept (told.holds a) (told.holds b) (told.holds c) text p.whole kept;
-  part = tt;
-  cause = record {
-    later = omega (arith, p.cause.later, cause.later);
-    wants_later = omega (arith, p.cause.wants_later, cause.wants_later);
-    failed = tt;
-    memory = tt;
-    kept = (cause.kept.0 ∙ p.cause.kept.0, cause.kept.1 ∙ p.cause.kept.1);
-  };
-}
-puts_flushed told a b c t (Err e) text p kept cause = record {
-  whole = tt;
-  part = AppendsFront-from (told.holds a) (told.holds c) text (length text)
-      (subst (λ (w : List ℕ). Appends (told.holds a) (told.holds c) w) (sym (take-length text))
-      (Appends-kept (told.holds a) (told.holds b) (told.holds c) text p.whole kept));
-  cause = record {
-    later = omega (arith, p.cause.later, cause.later);
-    wants_later = omega (arith, p.cause.wants_later, cause.wants_later);
-    failed = λ is. let r = cause.failed is in let same = p.cause.kept.0 in omega (arith, r, same);
-    memory = λ is. let r = cause.memory is in let same = p.cause.kept.1 in omega (arith, r, same);
-    kept = tt;
-  };
-}
+puts_flushed told a b c t r text p kept cause = Puts-is (Puts-then p (flushed told b c r kept cause)) (append-nil text)

@@ -1,6 +1,7 @@
 use Rattle.lx_workers.proofs.Imports.{◌≡◌, ◌+◌, ◌-◌, slice_get, None, length, vec_len, length-set, sym, ap, ◌∙◌, arith, Tapped}
 use Rattle.lx_base.proofs.Places.{each_snoc}
-use Rattle.lx_workers.proofs.PlacesKept.{length_snoc, each_left, each_last, get-set_other}
+use Rattle.lx_workers.proofs.PlacesKept.{length_snoc, each_left, each_last}
+use Rattle.lx_work.proofs.Places.{get-set_other}
 use Rattle.lx_workers.proofs.playing.fill_lanes.Goals as goal
 
 pub loop-tap-preserved : goal.loop-tap-preserved

@@ -1,6 +1,7 @@
 use Rattle.lx_workers.proofs.Imports.{rules, ◌≡◌, ◌≢◌, inl, inr, ◌+◌, ◌-◌, ◌<◌, length, vec_len, length-set, refl, sym, ap, ◌∙◌}
 use Rattle.lx_workers.proofs.Imports.{arith, set, slice_get, slice_get_within, prefix_self, IsGiven, OUTLETS}
-use Rattle.lx_workers.proofs.PlacesKept.{length_snoc, prefix_less, at_last, back_more, given_on, get-set_same, get-set_cases, none_at}
+use Rattle.lx_workers.proofs.PlacesKept.{length_snoc, prefix_less, at_last, back_more, given_on, none_at}
+use Rattle.lx_work.proofs.Places.{get-set_cases, get-set_same}
 use Rattle.lx_workers.proofs.playing.give_back.Goals as goal
 
 pub loop-lane-init : goal.loop-lane-init

@@ -1,5 +1,6 @@
 use Rattle.lx_workers.proofs.Imports.{rules, ◌≡◌, ◌-◌, ◌<◌, [], Some, length, vec_len, refl, sym, ◌∙◌, arith, slice_get_within}
-use Rattle.lx_workers.proofs.PlacesKept.{full_at, zip_at, get_within, is_back}
+use Rattle.lx_workers.proofs.PlacesKept.{full_at, is_back}
+use Rattle.lx_work.proofs.Places.{get_within, zip_at}
 use Rattle.lx_workers.proofs.Runs.{in_step_at, played_of, held_in}
 use Rattle.lx_workers.proofs.playing.play_over.Goals as goal
 

@@ -9,10 +9,9 @@ returns-then-not-is_newer g c =
 pub returns-in-Ok : goal.returns-in-Ok
 returns-in-Ok g c =
     rw c.saturating_add-served.ensures (put_whole _ _ c.args.tap.now c.args.sink.now c.put_line.new.sink c.args.served.now c.args.slots.now c.args.stamp
-    c.requires.none c.requires.version (search rules) (rw c.universe.ensures.value at c.in-Ok.ensures.puts.whole) c.in-Ok.ensures.puts.cause.kept.0
-    c.in-Ok.ensures.puts.cause.kept.1 c.in-Ok.ensures.handed_on)
+    c.requires.none c.requires.version (search rules) (rw (c.universe.ensures.value, c.in-Ok.is) at c.put_line.ensures.puts) c.in-Ok.ensures.handed_on)
 
 pub returns-in-Err : goal.returns-in-Err
 returns-in-Err g c =
-    put_part _ _ c.args.tap.now c.args.sink.now c.put_line.new.sink c.args.served.now c.args.slots.now c.args.stamp c.in-Err.fault c.requires.none
-    c.requires.version (search rules) (rw (c.universe.ensures.value, c.in-Err.is) at c.put_line.ensures.puts)
+    put_part _ _ c.args.tap.now c.args.sink.now c.put_line.new.sink c.args.served.now c.args.slots.now c.args.stamp c.requires.none
+    c.requires.version (search rules) c.in-Err.fault (rw (c.universe.ensures.value, c.in-Err.is) at c.put_line.ensures.puts)

@@ -1,4 +1,4 @@
-use Rattle.lx_workers.proofs.Imports.{rules, ◌∙◌, refl, ap, Some, length, subst}
+use Rattle.lx_workers.proofs.Imports.{rules, ◌∙◌, refl, ap}
 use Rattle.lx_workers.proofs.WorkerSteps.{served_none}
 use Rattle.lx_workers.proofs.worker.serve.Goals as goal
 
