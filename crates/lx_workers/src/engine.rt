@@ -65,18 +65,27 @@ impl<R: Wait, G: Origin, C: Pace, B: Before> Listener
 
     fn hear(&mut self, command: &Command, console: &Console) {
         self.unsent.push(command);
-        publish(
-            self.rt,
-            &mut self.writers,
-            &mut self.gate,
-            &mut self.unsent,
-            console,
-        );
+        self.publish(console);
         self.stop.tell_news();
     }
 
     fn hears_ticks(&self) -> bool {
         true
+    }
+}
+
+impl<R: Wait, G: Origin, C: Pace, B: Before> Publisher<'_, '_, '_, R, G, GateWriter<G>, C, B> {
+    /// Publishes what is unsent. Where the writer's heap refuses it stays unsent, and goes out with a later publish.
+    #[tactic(auto, using(crate::proofs::EngineSteps::sends_of))]
+    pub(crate) fn publish(&mut self, console: &Console)
+        requires { IsInStep G.show self.old.gate self.old.unsent console.now }
+        ensures in_step { IsInStep G.show self.new.gate self.new.unsent console.now }
+        ensures same { self.new.gate.published ++ self.new.unsent ≡ self.old.gate.published ++ self.old.unsent }
+        ensures sends { SendsAll self.old.writers self.new.writers self.new.unsent }
+    {
+        let _sent = self
+            .gate
+            .publish_desk(self.rt, &mut self.writers, &mut self.unsent, console);
     }
 }
 
@@ -93,21 +102,4 @@ fn has_room<G: Origin>(gate: &Gate<G, GateWriter<G>>, unsent: &Unsent) -> bool
     ensures { result ≡ leaves_room (accepted_of gate.now unsent.now) }
 {
     gate.count().saturating_add(unsent.len()) < MOST
-}
-
-/// Publishes what is unsent. Where the writer's heap refuses it stays unsent, and goes out with a later publish.
-#[tactic(auto, using(crate::proofs::EngineSteps::sends_of))]
-pub(crate) fn publish<G: Origin, R: Wait>(
-    rt: &R,
-    writers: &mut WriterHeap,
-    gate: &mut Gate<G, GateWriter<G>>,
-    unsent: &mut Unsent,
-    console: &Console,
-)
-    requires { IsInStep G.show gate.old unsent.old console.now }
-    ensures in_step { IsInStep G.show gate.new unsent.new console.now }
-    ensures same { gate.new.published ++ unsent.new ≡ gate.old.published ++ unsent.old }
-    ensures sends { SendsAll writers.old writers.new unsent.new }
-{
-    let _sent = gate.publish_desk(rt, writers, unsent, console);
 }

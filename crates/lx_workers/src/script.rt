@@ -6,7 +6,7 @@ ghost use Rattle.lx_gate.specs.Desks.{IsInStep};
 ghost use Rattle.lx_workers.specs.Engines.{HasRun, HasRunFrom};
 
 use crate::Stop;
-use crate::engine::{Before, Publisher, publish};
+use crate::engine::{Before, Publisher};
 use lx_console::Console;
 use lx_gate::{Gate, GateWriter, Origin, Unsent, Window, WriterHeap};
 use lx_io::{Heap, Pace, Sink, Source};
@@ -132,12 +132,6 @@ fn answer_script<B: Before, R: Wait, G: Origin, H: Heap, S: Source, K: Sink, C: 
         output.new result }
 {
     let session = session_with_in(publisher, heap, console, lines, output);
-    publish(
-        publisher.rt,
-        &mut publisher.writers,
-        &mut publisher.gate,
-        &mut publisher.unsent,
-        console,
-    );
+    publisher.publish(console);
     session
 }

@@ -20,7 +20,7 @@ returns g c =
       later = e.later;
       sends = sends_since _ s.new.listener.writers _ _ (omega (arith, first, same)) c.publish.ensures.sends;
       outcome = outcome_on _ _ c.args.publisher.now.gate c.args.publisher.now.unsent s.new.listener.gate s.new.listener.unsent
-          c.publish.new.gate c.publish.new.unsent c.publish.ensures.same _ _ _ _ _ _ _ _ _ e.outcome;
+          c.publish.new.self.gate c.publish.new.self.unsent c.publish.ensures.same _ _ _ _ _ _ _ _ _ e.outcome;
       limit = e.limit;
       cause = e.cause;
       handed_on = e.handed_on;
