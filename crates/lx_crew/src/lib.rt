@@ -18,4 +18,4 @@ pub use follows::Follows;
 pub use operator::Operator;
 pub use queue_heap::QueueHeap;
 pub use rule::{Enters, Gets, Leaves, Queue, QueueLaw, Sends, Total, View};
-pub use running::{Crewed, crew_in};
+pub use running::{Crewed, crew, crew_in};

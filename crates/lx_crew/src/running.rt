@@ -24,10 +24,10 @@ use crate::rule::{Enters, Leaves, Queue, Total, View};
 use crossbeam_queue::Pass;
 use crossbeam_utils::sync::{Parker, Unparker};
 use lx_console::Console;
-use lx_io::{Heap, Sink, SinkFault, Source};
+use lx_io::{Heap, Sink, SinkFault, Source, SystemHeap};
 use lx_session::Tally;
 use lx_work::run_after;
-use std::alloc::AllocError;
+use std::alloc::{AllocError, Global};
 use std::sync::Wait;
 use std::thread::Threads;
 
@@ -48,8 +48,30 @@ pub struct Crewed {
 ///
 /// A fault of an operator costs no line of another. Without a fault of the output all of the transcript is handed on. After
 /// one no line is done any more, and the sources are read on to their ends. `AllocError` comes only before the first line,
-/// and then nothing was read or written. It comes only where one of the heaps refused memory in this call, and an edit is refused
-/// with `Memory` only where the first did.
+/// and then nothing was read or written.
+pub fn crew<R: Threads + Wait + Sync, S: Source + Send + Drop, K: Sink + Send>(
+    rt: &R,
+    alloc: Global,
+    console: &mut Console,
+    operators: &mut [Option<S>],
+    sink: &mut K,
+) -> Result<Crewed, AllocError>
+    requires some { 1 ≤ length operators.old }
+    requires most { length operators.old ≤ OPERATORS }
+    requires full { EachAt (λ k place. IsSome place) operators.old }
+    ensures err { OnErr result ((console.new ≡ console.old) × ((sink.new ≡ sink.old) × (operators.new ≡ operators.old))) }
+    ensures crewed { IfOk result (λ c. (d : Desk) → StandsFor d console.old → HasCrewed false S.Source K.Sink d operators.old
+        operators.new sink.old sink.new console.new c.tally c.output c.operators) }
+    ensures cause { IfOk result (λ c. OutputCause K.Sink sink.old sink.new None c.output) }
+    ensures handed_on { IfOk result (λ c. c.output ≡ None → K.back sink.new ≡ []) }
+{
+    let mut heap = SystemHeap::new(alloc);
+    let mut queues = QueueHeap::new(alloc);
+    crew_in(rt, &mut heap, &mut queues, console, operators, sink)
+}
+
+/// The same, by heaps. `AllocError` comes only where one of them refused memory in this call, and an edit is refused with `Memory`
+/// only where the first did.
 pub fn crew_in<R: Threads + Wait + Sync, H: Heap + Send, S: Source + Send + Drop, K: Sink + Send>(
     rt: &R,
     heap: &mut H,

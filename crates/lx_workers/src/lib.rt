@@ -12,5 +12,5 @@ mod worker;
 pub use halt::{Halt, Stop, Watch};
 pub use lane::Lane;
 pub use lx_gate::WriterHeap;
-pub use playing::{LiveOutcome, OUTLETS, play_in};
+pub use playing::{LiveOutcome, OUTLETS, play, play_in};
 pub use worker::{Served, serve};

@@ -26,11 +26,11 @@ use crate::{Lane, Served, Stop};
 use lx_base::UNIVERSES;
 use lx_console::Console;
 use lx_gate::{EmptyHistory, Gate, GatePort, GateWriter, Origin, Tap, Unsent, WriterHeap};
-use lx_io::{Heap, Pace, Sink, SinkFault, Source};
+use lx_io::{Heap, Pace, Sink, SinkFault, Source, SystemHeap};
 use lx_lex::Lines;
 use lx_session::{SessionFault, Tally};
 use lx_work::run_before;
-use std::alloc::AllocError;
+use std::alloc::{AllocError, Global};
 use std::marker::Brand;
 use std::sync::Wait;
 use std::thread::Threads;
@@ -58,8 +58,51 @@ pub struct LiveOutcome {
 /// As long as fewer than 2^62 commands were accepted each command is admitted, so that `Memory` refuses only an edit that may take
 /// memory and that the desk accepts. A fault of an outlet ends that outlet alone: it isn't written again. `AllocError` comes only before
 /// the first line, and then nothing was read or written.
-///
-/// One heap is for the session and what the run keeps, and one for the gate's writer. `AllocError` comes only where one of the two
+pub fn play<
+    R: Threads + Wait + Sync,
+    S: Source + Send,
+    O: Sink + Send,
+    K: Sink + Send + Drop,
+    C: Pace + Sync,
+>(
+    rt: &R,
+    alloc: Global,
+    console: &mut Console,
+    lines: &mut Lines<S>,
+    output: &mut O,
+    outlets: &mut [Option<K>],
+    pace: &C,
+) -> Result<LiveOutcome, AllocError>
+    requires opened { StandsFor (opened console.old.show) console.old }
+    requires going { CanAdvance lines.old }
+    requires within { bytes_taken lines.old ≤ INPUT_BYTES }
+    requires some { 1 ≤ length outlets.old }
+    requires most { length outlets.old ≤ OUTLETS }
+    requires full { IsFull outlets.old }
+    ensures err { OnErr result ((console.new ≡ console.old)
+        × ((lines.new ≡ lines.old) × ((output.new ≡ output.old) × (outlets.new ≡ outlets.old)))) }
+    ensures same_source { SameSource lines.old lines.new }
+    ensures played { IfOk result (λ p. HasPlayedScript false S.Source O.Sink K.Sink console.old.show lines.old lines.new output.old
+        output.new outlets.old outlets.new console.new p.session p.outlets p.unsent) }
+    ensures limit { IfOk result (λ p. IfSome (unread S.Source lines.old) (λ bytes. KeepsLimit (bytes_taken lines.old) bytes p.session)) }
+    ensures cause { IfOk result (λ p. HasSessionCause S.Source O.Sink lines.old lines.new output.old output.new p.session) }
+    ensures handed_on { IfOk result (λ p. HandsOnReplies p.session (O.back output.new)) }
+{
+    let mut heap = SystemHeap::new(alloc);
+    let mut writers = WriterHeap::new(alloc);
+    play_in(
+        rt,
+        &mut heap,
+        &mut writers,
+        console,
+        lines,
+        output,
+        outlets,
+        pace,
+    )
+}
+
+/// As `play`, by a heap for the session and what the run keeps, and one for the gate's writer. `AllocError` comes only where one of the two
 /// refused. Where the heap refused nothing in this call, no command failed for want of memory as long as each was admitted; and where the
 /// writer's heap refused nothing, all accepted commands were published.
 pub fn play_in<
