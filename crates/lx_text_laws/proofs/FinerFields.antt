@@ -1,10 +1,10 @@
 -- What a line's numbers and lists say under wider limits, where they could be read before.
-use Rattle.lx_text_laws.proofs.Imports.{◌≡◌, ℕ, zero, suc, ◌+◌, ◌*◌, ◌/◌, ◌%◌, ◌^◌, ◌<◌, ◌≤◌, Bool, true, false, cond}
-use Rattle.lx_text_laws.proofs.Imports.{◌&&◌, ◌==◌, nat_le, Some, Result, Ok, Err, List, [], ◌∷◌, length, option_map, codes, IfOk, refl, arith}
-use Rattle.lx_text_laws.proofs.Imports.{ap, ◌∙◌, sym, subst, and_parts, nat_tests, Bad, Shape, Range, TextFault, ShortList, ◌>>=◌, Limits, is_word}
-use Rattle.lx_text_laws.proofs.Imports.{is_number, number_of, whole_part, decimals, is_decimal, decimal_value, ranged, read_whole, read_level, read_time}
-use Rattle.lx_text_laws.proofs.Imports.{read_cue_no, number, numbered, delay_at, times, pairs, levels, triples, is_page_one, patch_entry, channels_entry}
-use Rattle.lx_text_laws.proofs.Imports.{record_entry, Section, NoRecord, InCue, Skipping, Entry, Skipped, Begins, Links, HasChannels, HasOneDecimalMore}
+use Rattle.lx_text_laws.proofs.Imports.{◌≡◌, ℕ, zero, suc, ◌+◌, ◌*◌, ◌/◌, ◌%◌, ◌^◌, ◌<◌, ◌≤◌, Bool, true, false, cond, ◌&&◌, ◌==◌, nat_le, Some}
+use Rattle.lx_text_laws.proofs.Imports.{Result, Ok, Err, List, [], ◌∷◌, length, option_map, codes, IfOk, refl, arith, ap, ◌∙◌, sym, subst, and_parts}
+use Rattle.lx_text_laws.proofs.Imports.{nat_tests, Bad, Shape, Range, TextFault, ShortList, ◌>>=◌, Limits, is_word, is_number, number_of, whole_part}
+use Rattle.lx_text_laws.proofs.Imports.{decimals, is_decimal, decimal_value, ranged, read_whole, read_level, read_time, read_cue_no, number, numbered}
+use Rattle.lx_text_laws.proofs.Imports.{delay_at, times, pairs, levels, triples, is_page_one, patch_entry, channels_entry, record_entry, Section}
+use Rattle.lx_text_laws.proofs.Imports.{NoRecord, InCue, Skipping, Entry, Skipped, Begins, Links, HasChannels, HasOneDecimalMore}
 use Rattle.std.proofs.Math.Nat.{pow-succ', one-le-pow, mul-div_cancel}
 
 -- What could be read is read as what f makes of it.

@@ -1,15 +1,16 @@
 -- What the lines of a text say under limits with a decimal more.
-use Rattle.lx_text_laws.proofs.Imports.{◌≡◌, ℕ, ◌+◌, ◌*◌, IfOk, Bool, true, false, cond, ◌||◌, ◌==◌, nat_lt, Some, None, Result, Ok}
-use Rattle.lx_text_laws.proofs.Imports.{Err, List, [], ◌∷◌, length, map, codes, refl, if◌then◌else◌, list_any, arith, ap, ◌∙◌, sym, subst}
-use Rattle.lx_text_laws.proofs.Imports.{nat_tests, length-map, PARTS, GROUPS, SUBS, TextFault, NoIdent, OutOfRange, LineTooLong, ◌>>=◌, Limits, tokens}
-use Rattle.lx_text_laws.proofs.Imports.{read_whole, read_time, read_cue_no, Facts, facts_after, with_cue_named, record_entry, Section, NoRecord, InCue, InGroup}
-use Rattle.lx_text_laws.proofs.Imports.{InSub, Skipping, Entry, PlacedEntry, Begins, Skipped, Links, NamesPart, HasUp, HasDown, Follows, Identifies, ClearsAll}
-use Rattle.lx_text_laws.proofs.Imports.{cue_in, is_end, is_too_long, is_makers_line, is_makers_record, is_unknown, is_unidentified, is_passed_over, if_few}
-use Rattle.lx_text_laws.proofs.Imports.{is_next, outer_entry, cue_entry, members_entry, stray_entry, inner_entry, entry_by_word, entry_by_tokens, entry_of}
-use Rattle.lx_text_laws.proofs.Imports.{entries, count_read, HasOneDecimalMore}
+use Rattle.lx_text_laws.proofs.Imports.{◌≡◌, ℕ, ◌+◌, ◌*◌, IfOk, Bool, true, false, cond, ◌||◌, ◌==◌, nat_lt, Some, None, Result, Ok, Err, List, []}
+use Rattle.lx_text_laws.proofs.Imports.{◌∷◌, length, map, codes, refl, if◌then◌else◌, list_any, arith, ap, ◌∙◌, sym, subst, nat_tests, length-map}
+use Rattle.lx_text_laws.proofs.Imports.{PARTS, GROUPS, SUBS, TextFault, NoIdent, OutOfRange, LineTooLong, ◌>>=◌, Limits, tokens, read_whole}
+use Rattle.lx_text_laws.proofs.Imports.{read_time, read_cue_no, Facts, facts_after, with_cue_named, record_entry, Section, NoRecord, InCue, InGroup}
+use Rattle.lx_text_laws.proofs.Imports.{InSub, Skipping, Entry, PlacedEntry, Begins, Skipped, Links, NamesPart, HasUp, HasDown, Follows, Identifies}
+use Rattle.lx_text_laws.proofs.Imports.{ClearsAll, cue_in, is_end, is_too_long, is_makers_line, is_makers_record, is_unknown, is_unidentified}
+use Rattle.lx_text_laws.proofs.Imports.{is_passed_over, if_few, is_next, outer_entry, cue_entry, members_entry, stray_entry, inner_entry}
+use Rattle.lx_text_laws.proofs.Imports.{entry_by_word, entry_by_tokens, entry_of, entries, count_read, HasOneDecimalMore}
 use Rattle.lx_spec.specs.declared.Word.{Word}
 use Rattle.lx_spec.specs.declared.Word.TheVariants as words
 use Rattle.lx_spec.specs.FirstWord.{word_of, is_inner}
+use Rattle.lx_text_laws.proofs.Passage.{here, goes_on}
 use Rattle.lx_text_laws.proofs.FinerLists.{any-mapped, tenfold-eq, placed-tenfold}
 use Rattle.lx_text_laws.proofs.FinerFields.{Kept, kept-same, kept-then, kept-either, kept-where, cue_no-kept, finer_section, finer_entry}
 use Rattle.lx_text_laws.proofs.FinerFields.{numbered-kept, times-kept, record_entry-kept, levels-kept, patch_entry-kept}
@@ -159,13 +160,6 @@ after-finer now f (Skipped None) = refl
 after-finer now f (Links n) = refl
 after-finer now f other = refl
 
--- a line's entry with where it stands
-abbrev here : Facts → Entry → PlacedEntry
-here f entry = record { section = f.section; part = f.part; entry = entry }
-
-abbrev goes_on : Facts → List (List ℕ) → Entry → Result (List PlacedEntry) TextFault
-goes_on f lines entry = cond (is_end entry) (Ok []) (entries (facts_after f entry) lines >>= (λ all. Ok (here f entry ∷ all)))
-
 pub entries-kept : (now : Limits) (f : Facts) (lines : List (List ℕ)) → HasOneDecimalMore now f.limits
     → Kept (map finer_placed) (entries f lines) (entries (finer_facts now f) lines)
 entries-kept now f [] more = tt
@@ -174,11 +168,11 @@ entries-kept now f (line ∷ lines) more =
     (goes_on (finer_facts now f) lines) (entry_of-kept now f more line)
     (λ entry. subst (λ (s : Result (List PlacedEntry) TextFault). Kept (map finer_placed) (goes_on f lines entry) s)
     (λ j. cond (sym (end-same entry) j) (Ok [])
-    (entries (sym (after-finer now f entry) j) lines >>= (λ all. Ok (finer_placed (here f entry) ∷ all))))
+    (entries (sym (after-finer now f entry) j) lines >>= (λ all. Ok (finer_placed (here f.section f.part entry) ∷ all))))
     (kept-either (map finer_placed) (is_end entry) (Ok []) _ (Ok []) _ refl
     (kept-then (map finer_placed) (map finer_placed) (entries (facts_after f entry) lines)
-    (entries (finer_facts now (facts_after f entry)) lines) (λ all. Ok (here f entry ∷ all))
-    (λ all. Ok (finer_placed (here f entry) ∷ all)) (entries-kept now (facts_after f entry) lines more) (λ all. refl))))
+    (entries (finer_facts now (facts_after f entry)) lines) (λ all. Ok (here f.section f.part entry ∷ all))
+    (λ all. Ok (finer_placed (here f.section f.part entry) ∷ all)) (entries-kept now (facts_after f entry) lines more) (λ all. refl))))
 
 -- How many lines are read.
 abbrev counted : Facts → List (List ℕ) → Result Entry TextFault → ℕ
@@ -205,8 +199,8 @@ count-step now f lines (Ok entry) s is rest =
     let it : counted (finer_facts now f) lines s ≡ cond (is_end entry) 1 (m + 1) =
     ap (counted (finer_facts now f) lines) is ∙ (λ j. cond (end-same entry j) 1 (count_read (after-finer now f entry j) lines + 1)) in
     subst (λ k. IfOk (goes_on f lines entry) (λ all. k ≡ cond (is_end entry) 1 (n + 1))) (sym it)
-    (unless_ended (is_end entry) (entries (facts_after f entry) lines >>= (λ all. Ok (here f entry ∷ all))) (m + 1) (n + 1)
-    (one_more (here f entry) m n (entries (facts_after f entry) lines) (rest entry)))
+    (unless_ended (is_end entry) (entries (facts_after f entry) lines >>= (λ all. Ok (here f.section f.part entry ∷ all))) (m + 1) (n + 1)
+    (one_more (here f.section f.part entry) m n (entries (facts_after f entry) lines) (rest entry)))
 count-step now f lines (Err fault) s is rest = tt
 
 pub count-kept : (now : Limits) (f : Facts) (lines : List (List ℕ)) → HasOneDecimalMore now f.limits

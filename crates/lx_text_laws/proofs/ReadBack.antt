@@ -1,8 +1,8 @@
 -- What the reader answers for a text that is in memory whole, and for the canonical text of a show.
-use Rattle.lx_text_laws.proofs.Imports.{◌≡◌, ◌⊎◌, inl, inr, ℕ, zero, suc, ◌+◌, ◌<◌, ◌≤◌, Bool, true, false, Option, Some, Result}
-use Rattle.lx_text_laws.proofs.Imports.{Ok, Err, IfSome, IfOk, IfErr, List, [], ◌∷◌, length, refl, sym, ap, ◌∙◌, subst, arith, ◌==◌, cond}
-use Rattle.lx_text_laws.proofs.Imports.{INPUT_BYTES, Form, Moves, TextFault, Limits, desk_limits, Show, Valid, show_text, first_lines, Reading, reads}
-use Rattle.lx_text_laws.proofs.Imports.{reads_under, HasOneDecimalMore, finer, ReadsFiner}
+use Rattle.lx_text_laws.proofs.Imports.{◌≡◌, ◌⊎◌, inl, inr, ℕ, zero, suc, ◌+◌, ◌<◌, ◌≤◌, Bool, true, false, Option, Some, Result, Ok, Err, IfSome}
+use Rattle.lx_text_laws.proofs.Imports.{IfOk, IfErr, List, [], ◌∷◌, length, refl, sym, ap, ◌∙◌, subst, arith, ◌==◌, cond, INPUT_BYTES, Form, Moves}
+use Rattle.lx_text_laws.proofs.Imports.{TextFault, Limits, desk_limits, Show, Valid, show_text, first_lines, Reading, reads, reads_under}
+use Rattle.lx_text_laws.proofs.Imports.{HasOneDecimalMore, finer, ReadsFiner}
 use Rattle.std.specs.Result.{result_unwrap_or}
 use Rattle.lx_io.specs.Told.{ToldBySource}
 use Rattle.lx_lex.specs.declared.lines.Lines.{Lines}
@@ -20,8 +20,7 @@ first_lines-within : (n : ℕ) (xs : List ℕ) → length (first_lines n xs) ≤
 first_lines-within n [] = omega arith
 first_lines-within zero (x ∷ xs) = omega arith
 first_lines-within (suc n) (x ∷ xs) =
-    let either : (b : Bool) → length (x ∷ first_lines (cond b n (suc n)) xs) ≤ length (x ∷ xs) =
-    λ b. elim b as (λ b. length (x ∷ first_lines (cond b n (suc n)) xs) ≤ length (x ∷ xs))
+    let either : (b : Bool) → length (x ∷ first_lines (cond b n (suc n)) xs) ≤ length (x ∷ xs) = elim
     [ true ↦ omega (arith, first_lines-within n xs) | false ↦ omega (arith, first_lines-within (suc n) xs) ] in
     either (x == 10)
 
