@@ -1,12 +1,12 @@
 -- What the lines of a text say under limits with a decimal more.
 use Rattle.lx_text_laws.proofs.Imports.{◌≡◌, ℕ, ◌+◌, ◌*◌, IfOk, Bool, true, false, cond, ◌||◌, ◌==◌, nat_lt, Some, None, Result, Ok, Err, List, []}
 use Rattle.lx_text_laws.proofs.Imports.{◌∷◌, length, map, codes, refl, if◌then◌else◌, list_any, arith, ap, ◌∙◌, sym, subst, nat_tests, length-map}
-use Rattle.lx_text_laws.proofs.Imports.{PARTS, GROUPS, SUBS, TextFault, NoIdent, OutOfRange, LineTooLong, ◌>>=◌, Limits, tokens, read_whole}
-use Rattle.lx_text_laws.proofs.Imports.{read_time, read_cue_no, Facts, facts_after, with_cue_named, record_entry, Section, NoRecord, InCue, InGroup}
-use Rattle.lx_text_laws.proofs.Imports.{InSub, Skipping, Entry, PlacedEntry, Begins, Skipped, Links, NamesPart, HasUp, HasDown, Follows, Identifies}
-use Rattle.lx_text_laws.proofs.Imports.{ClearsAll, cue_in, is_end, is_too_long, is_makers_line, is_makers_record, is_unknown, is_unidentified}
-use Rattle.lx_text_laws.proofs.Imports.{is_passed_over, if_few, is_next, outer_entry, cue_entry, members_entry, stray_entry, inner_entry}
-use Rattle.lx_text_laws.proofs.Imports.{entry_by_word, entry_by_tokens, entry_of, entries, count_read, HasOneDecimalMore}
+use Rattle.lx_text_laws.proofs.Imports.{PARTS, GROUPS, SUBS, TextFault, NoIdent, OutOfRange, ◌>>=◌, Limits, tokens, read_whole, read_time}
+use Rattle.lx_text_laws.proofs.Imports.{read_cue_no, Facts, facts_after, with_cue_named, Section, NoRecord, InCue, InGroup, InSub, Skipping, Entry}
+use Rattle.lx_text_laws.proofs.Imports.{PlacedEntry, Begins, Skipped, Links, NamesPart, HasUp, HasDown, Follows, ClearsAll, cue_in, is_end}
+use Rattle.lx_text_laws.proofs.Imports.{is_too_long, is_makers_line, is_makers_record, is_unknown, is_unidentified, is_passed_over, if_few, is_next}
+use Rattle.lx_text_laws.proofs.Imports.{outer_entry, cue_entry, members_entry, stray_entry, inner_entry, entry_by_word, entry_by_tokens, entry_of}
+use Rattle.lx_text_laws.proofs.Imports.{entries, count_read, HasOneDecimalMore}
 use Rattle.lx_spec.specs.declared.Word.{Word}
 use Rattle.lx_spec.specs.declared.Word.TheVariants as words
 use Rattle.lx_spec.specs.FirstWord.{word_of, is_inner}
@@ -60,16 +60,14 @@ module _ (now : Limits) (f : Facts) (more : HasOneDecimalMore now f.limits) wher
   few-kept other = refl
 
   outer-kept : (word : Word) (rest : List (List ℕ)) → Reads (outer_entry f word rest) (outer_entry (finer_facts now f) word rest)
-  outer-kept words.Ident rest = elim (is_next (codes "3:0") rest) as (λ b. Reads (cond b (Ok Identifies) (Err (NoIdent f.number)))
-      (cond b (Ok Identifies) (Err (NoIdent f.number)))) [ true ↦ refl | false ↦ tt ]
+  outer-kept words.Ident rest = kept-either finer_entry (is_next (codes "3:0") rest) _ _ _ _ refl tt
   outer-kept words.Maker rest = refl
   outer-kept words.Clear rest = elim (is_next (codes "ALL") rest) as (λ b. Reads (Ok (cond b ClearsAll (Skipped (Some NoRecord))))
       (Ok (cond b ClearsAll (Skipped (Some NoRecord))))) [ true ↦ refl | false ↦ refl ]
   outer-kept words.Set rest = channels_entry-kept now f.limits more f.number rest
   outer-kept words.Patch rest = patch_entry-kept now f.limits more f.number rest
   outer-kept words.Cue rest =
-      kept-then finer_entry finer_entry (record_entry f.number InCue (read_cue_no f.limits) rest)
-      (record_entry f.number InCue (read_cue_no now) rest) (if_few f) (if_few (finer_facts now f))
+      kept-then finer_entry finer_entry _ _ (if_few f) (if_few (finer_facts now f))
       (record_entry-kept f.number (λ n. 10 * n) InCue (read_cue_no f.limits) (read_cue_no now) rest (λ n. refl)
       (cue_no-kept now f.limits more)) few-kept
   outer-kept words.Group rest = record_entry-kept f.number (λ n. n) InGroup (read_whole 1 GROUPS) (read_whole 1 GROUPS) rest (λ n. refl)
@@ -129,13 +127,9 @@ module _ (now : Limits) (f : Facts) (more : HasOneDecimalMore now f.limits) wher
   word-kept line word rest =
       subst (λ s. Reads (entry_by_word f line word rest) s)
       (λ j. tested (finer_facts now f) line word rest (sym (makers-same f.section word) j) (sym (passed-same f.section word) j))
-      (kept-either finer_entry (is_makers_line f.section word) (Ok (Skipped None)) _ (Ok (Skipped None)) _ refl
-      (kept-either finer_entry (is_makers_record word) (Ok (Skipped (Some Skipping))) _ (Ok (Skipped (Some Skipping))) _ refl
-      (kept-either finer_entry (is_unknown word) (Ok (Skipped None)) _ (Ok (Skipped None)) _ refl
-      (kept-either finer_entry (is_unidentified f.identified word) (Err (NoIdent f.number)) _ (Err (NoIdent f.number)) _ tt
-      (kept-either finer_entry (is_passed_over f.section word) (Ok (Skipped None)) _ (Ok (Skipped None)) _ refl
-      (kept-either finer_entry (is_inner word) (inner_entry f.section f line word rest) (outer_entry f word rest)
-      (inner_entry (finer_section f.section) (finer_facts now f) line word rest) (outer_entry (finer_facts now f) word rest)
+      (kept-either finer_entry (is_makers_line f.section word) _ _ _ _ refl (kept-either finer_entry (is_makers_record word) _ _ _ _ refl
+      (kept-either finer_entry (is_unknown word) _ _ _ _ refl (kept-either finer_entry (is_unidentified f.identified word) _ _ _ _ tt
+      (kept-either finer_entry (is_passed_over f.section word) _ _ _ _ refl (kept-either finer_entry (is_inner word) _ _ _ _
       (inner-kept f.section line word rest) (outer-kept word rest)))))))
 
   tokens-kept : (line : List ℕ) (ts : List (List ℕ)) → Reads (entry_by_tokens f line ts) (entry_by_tokens (finer_facts now f) line ts)
@@ -143,8 +137,7 @@ module _ (now : Limits) (f : Facts) (more : HasOneDecimalMore now f.limits) wher
   tokens-kept line (first ∷ rest) = word-kept line (word_of first) rest
 
   pub entry_of-kept : (line : List ℕ) → Reads (entry_of f line) (entry_of (finer_facts now f) line)
-  entry_of-kept line = kept-either finer_entry (is_too_long line) (Err (LineTooLong f.number)) (entry_by_tokens f line (tokens line))
-      (Err (LineTooLong f.number)) (entry_by_tokens (finer_facts now f) line (tokens line)) tt (tokens-kept line (tokens line))
+  entry_of-kept line = kept-either finer_entry (is_too_long line) _ _ _ _ tt (tokens-kept line (tokens line))
 
 named-tenfold : (s : Section) (ns : List ℕ)
     → with_cue_named (cue_in (finer_section s)) (map (λ n. 10 * n) ns) ≡ map (λ n. 10 * n) (with_cue_named (cue_in s) ns)
@@ -169,10 +162,8 @@ entries-kept now f (line ∷ lines) more =
     (λ entry. subst (λ (s : Result (List PlacedEntry) TextFault). Kept (map finer_placed) (goes_on f lines entry) s)
     (λ j. cond (sym (end-same entry) j) (Ok [])
     (entries (sym (after-finer now f entry) j) lines >>= (λ all. Ok (finer_placed (here f.section f.part entry) ∷ all))))
-    (kept-either (map finer_placed) (is_end entry) (Ok []) _ (Ok []) _ refl
-    (kept-then (map finer_placed) (map finer_placed) (entries (facts_after f entry) lines)
-    (entries (finer_facts now (facts_after f entry)) lines) (λ all. Ok (here f.section f.part entry ∷ all))
-    (λ all. Ok (finer_placed (here f.section f.part entry) ∷ all)) (entries-kept now (facts_after f entry) lines more) (λ all. refl))))
+    (kept-either (map finer_placed) (is_end entry) _ _ _ _ refl
+    (kept-then (map finer_placed) (map finer_placed) _ _ _ _ (entries-kept now (facts_after f entry) lines more) (λ all. refl))))
 
 -- How many lines are read.
 abbrev counted : Facts → List (List ℕ) → Result Entry TextFault → ℕ

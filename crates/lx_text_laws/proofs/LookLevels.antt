@@ -89,20 +89,20 @@ looks_along show before (x ∷ cues) cue n c level range sorted was is =
     let first : Cue = look_of show before x in
     let rest : List Cue = from_looks show (level_in x) cues in
     let now = look_level show before x c level range was in
-    let split : (b : Bool) → (x.number == n) ≡ b → cond b (Some x) (entry_at (λ x. x.number) n cues) ≡ Some cue
-    → along n c (cond (nat_le x.number n) (tracked_on c first level) level) rest ≡ level_in cue c = elim [
-      | true ↦ λ same found.
+    elim (cases_Bool (x.number == n)) [
+      | inl same ↦
           let number : x.number ≡ n = eqb-true x.number n same in
+          let found = rw same at is in
           let it : x ≡ cue = cc in
           let above = subst (λ k. AllByRecursion (λ y. k < y.number) cues) number sorted.0 in
           ap (λ v. along n c v rest) (step_in n c level first (omega (arith, number)) ∙ now)
           ∙ along-past n c (level_in x c) rest (above_kept show n (level_in x) cues above) ∙ ap (λ y. level_in y c) it
-      | false ↦ λ other found.
+      | inr other ↦
+          let found = rw other at is in
           let low : x.number < cue.number = found_valid (λ y. x.number < y.number) (λ y. y.number) n cues cue sorted.0 found in
           looks_along show (level_in x) cues cue n c (cond (nat_le x.number n) (tracked_on c first level) level) range sorted.1
           (step_in n c level first (omega (arith, low, found_number (λ y. y.number) n cues cue found)) ∙ now) found
-    ] in
-    split (x.number == n) refl is
+    ]
 
 -- The cues of a show that was read are sorted.
 cues_sorted : (all : List PlacedEntry) → IsStrictlySorted (λ x. x.number) (show_from all).cues

@@ -175,7 +175,7 @@ chunks_plain : (channels : ℕ) (s : Section) (p : ℕ) (cs : List Chunk) → Al
     → AllByRecursion (λ e. Plain channels e × (rows_in e.entry ≡ [])) (chunks_entries s p cs)
 chunks_plain channels s p [] all = tt
 chunks_plain channels s p (c ∷ cs) all = (
-  (record { sets = refl; skips = refl; clears = refl; names = tt }, refl),
+  search,
   all_append (λ e. Plain channels e × (rows_in e.entry ≡ [])) c.body (chunks_entries c.section c.part cs)
       (each (Within channels c.section) (λ e. Plain channels e × (rows_in e.entry ≡ [])) c.body (λ e w. (w.plain, w.rows)) all.0)
       (chunks_plain channels c.section c.part cs all.1),
@@ -187,7 +187,7 @@ all_plain show valid =
     all_append P (patch_entries show.patch) (records_of show)
     (All-map P (λ row. here NoRecord 1 (Patches (row ∷ []))) show.patch
     (each (ValidPatchRow show.channels) (λ row. P (here NoRecord 1 (Patches (row ∷ [])))) show.patch
-    (λ row v. record { sets = refl; skips = refl; clears = refl; names = (v.chan.most, tt) }) valid.patch))
+    (λ row v. let low = v.chan.most in search) valid.patch))
     (each (λ e. P e × (rows_in e.entry ≡ [])) P (records_of show) (λ e w. w.0)
     (chunks_plain show.channels NoRecord 1 (chunks_of show) (chunks_within show valid)))
 

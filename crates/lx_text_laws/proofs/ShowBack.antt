@@ -92,15 +92,6 @@ pub record Within (channels : ℕ) (s : Section) (e : PlacedEntry) : Type 0 wher
 abbrev pub AllWithin : ℕ → Section → List PlacedEntry → Type 0
 AllWithin channels s es = AllByRecursion (Within channels s) es
 
-level_within : (channels : ℕ) (s : Section) (p c l : ℕ) → c ≤ channels → Within channels s (level_entry s p c l)
-level_within channels s p c l low = record {
-  place = refl;
-  begins = refl;
-  inside = refl;
-  rows = refl;
-  plain = record { sets = refl; skips = refl; clears = refl; names = (low, tt) };
-}
-
 cue_within : (channels : ℕ) (cue : Cue) → ValidCue channels cue → AllWithin channels (InCue cue.number) (cue_body cue)
 cue_within channels cue valid =
     let n = cue.number in
@@ -111,7 +102,7 @@ cue_within channels cue valid =
     (parts_all P n 1 cue.moves cue.parts (λ q p. search) (λ p t d. search) (λ p t d. search)
     (λ p. All-map P (λ m. level_entry s p m.chan m.level) (in_part p cue.moves)
     (each (ValidMove channels cue.parts) (λ m. P (level_entry s p m.chan m.level)) (in_part p cue.moves)
-    (λ m v. level_within channels s p m.chan m.level v.chan.most)
+    (λ m v. let low = v.chan.most in search)
     (kept_by (ValidMove channels cue.parts) (λ m. m.part == p) cue.moves valid.moves))))
 
 set_within : (s : Section) (limit channels : ℕ) (set : MemberSet) → ValidSet limit channels set → AllWithin channels s (set_body s set)
@@ -120,7 +111,7 @@ set_within s limit channels set valid =
     all_append P (label_entries s set.label) (member_entries s set.members) (maybe_all P IsLabelled s _ (λ label. search))
     (All-map P (λ m. level_entry s 1 m.chan m.level) set.members
     (each (ValidMember channels) (λ m. P (level_entry s 1 m.chan m.level)) set.members
-    (λ m v. level_within channels s 1 m.chan m.level v.chan.most) valid.members.each))
+    (λ m v. let low = v.chan.most in search) valid.members.each))
 
 -- all records of a show
 abbrev pub chunks_of : Show → List Chunk

@@ -143,17 +143,10 @@ pub parts_all : (P : PlacedEntry → Type 0) (n q : ℕ) (moves : List Move) (pa
     → AllByRecursion P (parts_entries n q moves parts)
 parts_all P n q moves [] names ups downs levels = tt
 parts_all P n q moves (part ∷ parts) names ups downs levels =
-    let p = part.number in (
-      names q p,
-      (
-        ups p part.up part.up_delay,
-        (
-          downs p part.down part.down_delay,
-          all_append P (move_entries n p (in_part p moves)) (parts_entries n p moves parts) (levels p)
-              (parts_all P n p moves parts names ups downs levels),
-        ),
-      ),
-    )
+    let p = part.number in
+    let rest = all_append P (move_entries n p (in_part p moves)) (parts_entries n p moves parts) (levels p)
+    (parts_all P n p moves parts names ups downs levels) in
+    (names q p, (ups p part.up part.up_delay, (downs p part.down part.down_delay, rest)))
 
 -- What begins a record: its lines, and what they say in its section.
 pub record Chunk : Type 0 where

@@ -65,11 +65,7 @@ middle_reads show valid =
 
 chunks_text : (show : Show) → flat_map (λ c. c.text) (chunks_of show)
     ≡ flat_map group_text show.groups ++ (flat_map sub_text show.subs ++ flat_map cue_text show.cues)
-chunks_text show =
-    let of = λ (c : Chunk). c.text in
-    flat_map-append of (map group_chunk show.groups) (map sub_chunk show.subs ++ map cue_chunk show.cues)
-    ∙ ap (λ v. flat_map of (map group_chunk show.groups) ++ v) (flat_map-append of (map sub_chunk show.subs) (map cue_chunk show.cues))
-    ∙ (λ j. flat_map-map of group_chunk show.groups j ++ (flat_map-map of sub_chunk show.subs j ++ flat_map-map of cue_chunk show.cues j))
+chunks_text show = simp (flat_map-append, flat_map-map)
 
 regrouped : (a b c d e f g : List ℕ) → a ++ b ++ c ++ d ++ e ++ f ++ g ≡ (a ++ (b ++ (c ++ (d ++ (e ++ f))))) ++ g
 regrouped a b c d e f g = simp append_assoc
