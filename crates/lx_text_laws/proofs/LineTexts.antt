@@ -82,6 +82,10 @@ said : {most : ℕ} {body : List ℕ} {words : List (List ℕ)} (s s' : Section)
 said {most} {body} s s' p p' e says few is goes next =
     reads_line s s' p p' body e says.stays_all (λ i cs. by_tokens (at i s p cs) says few ∙ is i cs) goes next
 
+-- the line of these words says the entry, and leads from a section and a part to others
+abbrev pub Line : Section → ℕ → List (List ℕ) → Entry → Section → ℕ → Type 0
+Line s p words e s' p' = Reads s p (line words) (here s p e ∷ []) s' p' 0
+
 -- CHAN c@L
 abbrev one_level : ℕ → Result ℕ Bad → Result ℕ Bad → Result Entry TextFault
 one_level i c l = (number i c >>= (λ chan. number i l >>= (λ level. Ok (record { chan = chan; level = level } ∷ []))))
@@ -92,9 +96,9 @@ TakesLevels s p = (i : ℕ) (cs : List ℕ) (line : List ℕ) (rest : List (List
     → entry_by_word (at i s p cs) line words.Chan rest ≡ levels desk_limits i rest
 
 pub level_reads : (s : Section) (p c l : ℕ) → TakesLevels s p → InRange CHANNELS c → IsLevel l
-    → Reads s p (line (codes "CHAN" ∷ at_text c l ∷ [])) (here s p (HasLevels (record { chan = c; level = l } ∷ [])) ∷ []) s p 0
+    → Line s p (codes "CHAN" ∷ at_text c l ∷ []) (HasLevels (record { chan = c; level = l } ∷ [])) s p
 level_reads s p c l takes range low =
-    said s s p p (HasLevels (record { chan = c; level = l } ∷ []))
+    said _ _ _ _ (HasLevels (record { chan = c; level = l } ∷ []))
     (first (codes "CHAN") refl (before (number_token (whole_text c (omega (arith, range.most)))) 64 refl (last (level_token l low))))
     (omega arith)
     (λ i cs. takes i cs (spaced (codes "CHAN" ∷ at_text c l ∷ [])) (decimal c ∷ level_text l ∷ [])
@@ -105,16 +109,14 @@ level_reads s p c l takes range low =
 abbrev one_number : ℕ → (ℕ → Entry) → Result ℕ Bad → Result Entry TextFault
 one_number i entry r = number i r >>= (λ n. Ok (entry n))
 
-pub follow_reads : (n p t : ℕ) → IsTime t
-    → Reads (InCue n) p (line (codes "FOLLOWON" ∷ time_text t ∷ [])) (here (InCue n) p (Follows t) ∷ []) (InCue n) p 0
+pub follow_reads : (n p t : ℕ) → IsTime t → Line (InCue n) p (codes "FOLLOWON" ∷ time_text t ∷ []) (Follows t) (InCue n) p
 follow_reads n p t low =
-    said (InCue n) (InCue n) p p (Follows t) (first (codes "FOLLOWON") refl (last (number_token (time_reads t low).text))) (omega arith)
+    said _ _ _ _ (Follows t) (first (codes "FOLLOWON") refl (last (number_token (time_reads t low).text))) (omega arith)
     (λ i cs j. one_number i Follows (read_time-written t low j)) refl (λ i cs. refl)
 
-pub link_reads : (n p m : ℕ) → InRange CUE_MAX m
-    → Reads (InCue n) p (line (codes "LINK" ∷ cue_number_text m ∷ [])) (here (InCue n) p (Links m) ∷ []) (InCue n) p 0
+pub link_reads : (n p m : ℕ) → InRange CUE_MAX m → Line (InCue n) p (codes "LINK" ∷ cue_number_text m ∷ []) (Links m) (InCue n) p
 link_reads n p m range =
-    said (InCue n) (InCue n) p p (Links m) (first (codes "LINK") refl (last (number_token (cue_number_reads m range.most).text))) (omega arith)
+    said _ _ _ _ (Links m) (first (codes "LINK") refl (last (number_token (cue_number_reads m range.most).text))) (omega arith)
     (λ i cs j. one_number i Links (read_cue_no-written m range.least range.most j)) refl (λ i cs. refl)
 
 -- a word and a whole number
@@ -122,29 +124,24 @@ whole_said : (s s' : Section) (p p' n most : ℕ) (w : List ℕ) (entry : ℕ �
     → ((i : ℕ) (cs : List ℕ) (body text : List ℕ)
     → entry_by_tokens (at i s p cs) body (w ∷ text ∷ []) ≡ one_number i entry (read_whole 1 most text)) → is_end (entry n) ≡ false
     → ((i : ℕ) (cs : List ℕ) → facts_after (at i s p cs) (entry n) ≡ at (i + 1) s' p' cs)
-    → Reads s p (line (w ∷ decimal n ∷ [])) (here s p (entry n) ∷ []) s' p' 0
+    → Line s p (w ∷ decimal n ∷ []) (entry n) s' p'
 whole_said s s' p p' n most w entry range small is takes goes next =
-    said s s' p p' (entry n) (first w is (last (number_token (whole_text n (omega (arith, range.most, small)))))) (omega arith)
+    said _ _ _ _ (entry n) (first w is (last (number_token (whole_text n (omega (arith, range.most, small)))))) (omega arith)
     (λ i cs. takes i cs (w ++ 32 ∷ decimal n) (decimal n)
     ∙ (λ j. one_number i entry (read_whole-decimal 1 most n range.least range.most small j))) goes next
 
-pub part_reads : (n q p : ℕ) → InRange PARTS p
-    → Reads (InCue n) q (line (codes "PART" ∷ decimal p ∷ [])) (here (InCue n) q (NamesPart p) ∷ []) (InCue n) p 0
+pub part_reads : (n q p : ℕ) → InRange PARTS p → Line (InCue n) q (codes "PART" ∷ decimal p ∷ []) (NamesPart p) (InCue n) p
 part_reads n q p range =
-    whole_said (InCue n) (InCue n) q p p PARTS (codes "PART") NamesPart range (omega arith) refl (λ i cs body text. refl) refl (λ i cs. refl)
+    whole_said _ _ _ _ p PARTS (codes "PART") NamesPart range (omega arith) refl (λ i cs body text. refl) refl (λ i cs. refl)
 
 -- GROUP g and SUB s, in any section
-pub group_reads : (s : Section) (p g : ℕ) → InRange GROUPS g
-    → Reads s p (line (codes "GROUP" ∷ decimal g ∷ [])) (here s p (Begins (InGroup g)) ∷ []) (InGroup g) 1 0
+pub group_reads : (s : Section) (p g : ℕ) → InRange GROUPS g → Line s p (codes "GROUP" ∷ decimal g ∷ []) (Begins (InGroup g)) (InGroup g) 1
 group_reads s p g range =
-    whole_said s (InGroup g) p 1 g GROUPS (codes "GROUP") (λ n. Begins (InGroup n)) range (omega arith) refl (λ i cs body text. refl) refl
-    (λ i cs. refl)
+    whole_said _ _ _ _ g GROUPS (codes "GROUP") (λ n. Begins (InGroup n)) range (omega arith) refl (λ i cs body text. refl) refl (λ i cs. refl)
 
-pub sub_reads : (s : Section) (p n : ℕ) → InRange SUBS n
-    → Reads s p (line (codes "SUB" ∷ decimal n ∷ [])) (here s p (Begins (InSub n)) ∷ []) (InSub n) 1 0
+pub sub_reads : (s : Section) (p n : ℕ) → InRange SUBS n → Line s p (codes "SUB" ∷ decimal n ∷ []) (Begins (InSub n)) (InSub n) 1
 sub_reads s p n range =
-    whole_said s (InSub n) p 1 n SUBS (codes "SUB") (λ m. Begins (InSub m)) range (omega arith) refl (λ i cs body text. refl) refl
-    (λ i cs. refl)
+    whole_said _ _ _ _ n SUBS (codes "SUB") (λ m. Begins (InSub m)) range (omega arith) refl (λ i cs body text. refl) refl (λ i cs. refl)
 
 -- CUE n, where there is room for one more
 abbrev cue_entry_of : Facts → Result ℕ Bad → Result Entry TextFault
@@ -171,9 +168,9 @@ cue_reads s p n range = record {
 
 -- SET CHANNELS n
 pub channels_reads : (n : ℕ) → InRange CHANNELS n
-    → Reads NoRecord 1 (line (codes "SET" ∷ codes "CHANNELS" ∷ decimal n ∷ [])) (here NoRecord 1 (HasChannels n) ∷ []) NoRecord 1 0
+    → Line NoRecord 1 (codes "SET" ∷ codes "CHANNELS" ∷ decimal n ∷ []) (HasChannels n) NoRecord 1
 channels_reads n range =
-    said NoRecord NoRecord 1 1 (HasChannels n)
+    said _ _ _ _ (HasChannels n)
     (first (codes "SET") refl (first (codes "CHANNELS") refl (last (number_token (whole_text n (omega (arith, range.most)))))))
     (omega arith) (λ i cs j. one_number i HasChannels (read_whole-decimal 1 CHANNELS n range.least range.most (omega arith) j)) refl
     (λ i cs. refl)
@@ -185,10 +182,9 @@ one_row i c e l = (number i c >>= (λ chan. number i e
     >>= (λ rows. Ok (Patches rows))
 
 pub patch_reads : (c e l : ℕ) → InRange CHANNELS c → InRange DIMMERS e → IsLevel l
-    → Reads NoRecord 1 (line (codes "PATCH" ∷ codes "1" ∷ (decimal c ++ 60 ∷ at_text e l) ∷ []))
-    (here NoRecord 1 (Patches (record { dimmer = e; chan = c; level = l } ∷ [])) ∷ []) NoRecord 1 0
+    → Line NoRecord 1 (codes "PATCH" ∷ codes "1" ∷ (decimal c ++ 60 ∷ at_text e l) ∷ []) (Patches (record { dimmer = e; chan = c; level = l } ∷ [])) NoRecord 1
 patch_reads c e l chan dimmer low =
-    said NoRecord NoRecord 1 1 (Patches (record { dimmer = e; chan = c; level = l } ∷ []))
+    said _ _ _ _ (Patches (record { dimmer = e; chan = c; level = l } ∷ []))
     (first (codes "PATCH") refl (first (codes "1") refl (before (number_token (whole_text c (omega (arith, chan.most)))) 60 refl
     (before (number_token (whole_text e (omega (arith, dimmer.most)))) 64 refl (last (level_token l low)))))) (omega arith)
     (λ i cs j. one_row i (read_whole-decimal 1 CHANNELS c chan.least chan.most (omega arith) j)
@@ -202,19 +198,18 @@ times_said : (n p : ℕ) (w : List ℕ) (entry : ℕ → ℕ → Entry) (t d : �
     → ((i : ℕ) (cs : List ℕ) (body : List ℕ) (a b : List ℕ)
     → entry_by_tokens (at i (InCue n) p cs) body (w ∷ a ∷ b ∷ []) ≡ two_times i entry (read_time a) (read_time b))
     → is_end (entry t d) ≡ false → ((i : ℕ) (cs : List ℕ) → facts_after (at i (InCue n) p cs) (entry t d) ≡ at (i + 1) (InCue n) p cs)
-    → Reads (InCue n) p (line (w ∷ time_text t ∷ time_text d ∷ [])) (here (InCue n) p (entry t d) ∷ []) (InCue n) p 0
+    → Line (InCue n) p (w ∷ time_text t ∷ time_text d ∷ []) (entry t d) (InCue n) p
 times_said n p w entry t d is low few takes goes next =
-    said (InCue n) (InCue n) p p (entry t d)
+    said _ _ _ _ (entry t d)
     (first w is (before (number_token (time_reads t low).text) 32 refl (last (number_token (time_reads d few).text)))) (omega arith)
     (λ i cs. takes i cs (spaced (w ∷ time_text t ∷ time_text d ∷ [])) (time_text t) (time_text d)
     ∙ (λ j. two_times i entry (read_time-written t low j) (read_time-written d few j))) goes next
 
-pub up_reads : (n p t d : ℕ) → IsTime t → IsTime d
-    → Reads (InCue n) p (line (codes "UP" ∷ time_text t ∷ time_text d ∷ [])) (here (InCue n) p (HasUp t d) ∷ []) (InCue n) p 0
+pub up_reads : (n p t d : ℕ) → IsTime t → IsTime d → Line (InCue n) p (codes "UP" ∷ time_text t ∷ time_text d ∷ []) (HasUp t d) (InCue n) p
 up_reads n p t d low few = times_said n p (codes "UP") HasUp t d refl low few (λ i cs body a b. refl) refl (λ i cs. refl)
 
 pub down_reads : (n p t d : ℕ) → IsTime t → IsTime d
-    → Reads (InCue n) p (line (codes "DOWN" ∷ time_text t ∷ time_text d ∷ [])) (here (InCue n) p (HasDown t d) ∷ []) (InCue n) p 0
+    → Line (InCue n) p (codes "DOWN" ∷ time_text t ∷ time_text d ∷ []) (HasDown t d) (InCue n) p
 down_reads n p t d low few = times_said n p (codes "DOWN") HasDown t d refl low few (λ i cs body a b. refl) refl (λ i cs. refl)
 
 -- TEXT label
@@ -226,7 +221,7 @@ one_there : (x : List ℕ) (xs : List (List ℕ)) → nat_le 1 (length (x ∷ xs
 one_there x xs = grind (arith, nat_tests)
 
 pub label_reads : (s : Section) (p : ℕ) (label : List ℕ) → TakesLabel s p → IsLabel label
-    → Reads s p (line (codes "TEXT" ∷ label ∷ [])) (here s p (IsLabelled label) ∷ []) s p 0
+    → Line s p (codes "TEXT" ∷ label ∷ []) (IsLabelled label) s p
 label_reads s p label takes own =
     let o = own_label label own in
     let rest : Says LABEL_BYTES label (tokens label) = record { cut = refl; stays_all = o.stays_all; short = o.short } in
@@ -234,11 +229,11 @@ label_reads s p label takes own =
     let back : label_of (rest_after (spaced (codes "TEXT" ∷ label ∷ [])) 1) ≡ label =
     ap label_of ((λ j. cond (nat_le 1 (length (says.cut j))) (after_all is_blank label) [])
     ∙ ap (λ b. cond b (after_all is_blank label) []) (one_there (codes "TEXT") (tokens label)) ∙ o.no_blank) ∙ own in
-    said s s p p (IsLabelled label) says (omega arith)
+    said _ _ _ _ (IsLabelled label) says (omega arith)
     (λ i cs. takes i cs (spaced (codes "TEXT" ∷ label ∷ [])) (tokens label) ∙ ap (λ v. Ok (IsLabelled v)) back) refl (λ i cs. refl)
 
-pub block_reads : (n p : ℕ) → Reads (InCue n) p (line (codes "$$BLOCK" ∷ [])) (here (InCue n) p Blocks ∷ []) (InCue n) p 0
-block_reads n p = reads_line (InCue n) (InCue n) p p (codes "$$BLOCK") Blocks refl (λ i cs. refl) refl (λ i cs. refl)
+pub block_reads : (n p : ℕ) → Line (InCue n) p (codes "$$BLOCK" ∷ []) Blocks (InCue n) p
+block_reads n p = reads_line _ _ _ _ (codes "$$BLOCK") Blocks refl (λ i cs. refl) refl (λ i cs. refl)
 
-pub assert_reads : (n p : ℕ) → Reads (InCue n) p (line (codes "$$ASSERT" ∷ [])) (here (InCue n) p Asserts ∷ []) (InCue n) p 0
-assert_reads n p = reads_line (InCue n) (InCue n) p p (codes "$$ASSERT") Asserts refl (λ i cs. refl) refl (λ i cs. refl)
+pub assert_reads : (n p : ℕ) → Line (InCue n) p (codes "$$ASSERT" ∷ []) Asserts (InCue n) p
+assert_reads n p = reads_line _ _ _ _ (codes "$$ASSERT") Asserts refl (λ i cs. refl) refl (λ i cs. refl)

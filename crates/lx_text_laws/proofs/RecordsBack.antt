@@ -3,15 +3,15 @@ use Rattle.lx_text_laws.proofs.Imports.{flat_map-map, ◌≡◌, ℕ, ◌+◌, �
 use Rattle.lx_text_laws.proofs.Imports.{◌∷◌, ◌++◌, map, filter, fold, flat_map, filter_map, drop, length, unwrap_or, option_and_then, count_by}
 use Rattle.lx_text_laws.proofs.Imports.{position, refl, AllByRecursion, last_or, cons_option, after_last, position_or_len, suffix_len, option_map_or}
 use Rattle.lx_text_laws.proofs.Imports.{arith, ap, ◌∙◌, sym, flat_map-append, append-nil, filter-append, filter_map-append, suffix_len_is}
-use Rattle.lx_text_laws.proofs.Imports.{DEFAULT_CHANNELS, Section, NoRecord, PatchRow, Moves, IsStrictlySorted, Show, Valid, ValidCue, ValidGroup}
-use Rattle.lx_text_laws.proofs.Imports.{ValidSub, ValidPatchRow, PlacedEntry, Identifies, section_begun, channels_set, rows_in, is_skipped}
-use Rattle.lx_text_laws.proofs.Imports.{clears_all, cue_in, group_in, sub_in, last_of_each, last_in, numbers_begun, stands_in, each_record, cue_from}
-use Rattle.lx_text_laws.proofs.Imports.{group_from, sub_from, channels_named, show_from, reading_from, each, all_append, filter_all, filter_none}
-use Rattle.lx_text_laws.proofs.Imports.{append_assoc, GROUPS, SUBS, InGroup, InSub, Patches, HasChannels, lt_false}
+use Rattle.lx_text_laws.proofs.Imports.{DEFAULT_CHANNELS, Section, NoRecord, PatchRow, Moves, IsStrictlySorted, Show, Valid, ValidPatchRow}
+use Rattle.lx_text_laws.proofs.Imports.{PlacedEntry, Identifies, section_begun, channels_set, rows_in, is_skipped, clears_all, cue_in, group_in}
+use Rattle.lx_text_laws.proofs.Imports.{sub_in, last_of_each, last_in, numbers_begun, stands_in, each_record, cue_from, group_from, sub_from}
+use Rattle.lx_text_laws.proofs.Imports.{channels_named, show_from, reading_from, each, all_append, filter_all, filter_none, append_assoc, GROUPS}
+use Rattle.lx_text_laws.proofs.Imports.{SUBS, InGroup, InSub, Patches, HasChannels, lt_false}
 use Rattle.std.proofs.lemmas.List.Sums.{length-filter}
 use Rattle.std.proofs.lemmas.List.Elements.{All-from_recursion}
 use Rattle.lx_text_laws.proofs.Passage.{here}
-use Rattle.lx_text_laws.proofs.ShowEntries.{cue_body, set_body, Chunk, cue_chunk, group_chunk, sub_chunk, chunks_entries, patch_entries}
+use Rattle.lx_text_laws.proofs.ShowEntries.{Chunk, cue_chunk, group_chunk, sub_chunk, chunks_entries, patch_entries}
 use Rattle.lx_text_laws.proofs.SortedGroups.{All-both, All-each, All-map, IsStrictlySorted-map, last_of_each-same}
 use Rattle.lx_text_laws.proofs.Views.{filter_map-none, flat_map-none, filter-swap, picked, picked-own, map-own}
 use Rattle.lx_text_laws.proofs.CueBack.{cue_back, set_back}
@@ -23,8 +23,7 @@ front_of show = here NoRecord 1 Identifies ∷ here NoRecord 1 (HasChannels show
 
 rows_all : (P : PlacedEntry → Type 0) (rows : List PatchRow) → ((row : PatchRow) → P (here NoRecord 1 (Patches (row ∷ []))))
     → AllByRecursion P (patch_entries rows)
-rows_all P rows all = All-map P (λ row. here NoRecord 1 (Patches (row ∷ []))) rows
-    (All-each (λ row. P (here NoRecord 1 (Patches (row ∷ [])))) rows all)
+rows_all P rows all = All-map P (λ row. here NoRecord 1 (Patches (row ∷ []))) rows (All-each _ rows all)
 
 abbrev records_of : Show → List PlacedEntry
 records_of show = chunks_entries NoRecord 1 (chunks_of show)
@@ -37,9 +36,9 @@ chunks_begin : (number : Section → Option ℕ) (channels : ℕ) (s : Section) 
     → AllByRecursion (ChunkWithin channels) cs → filter_map (begun number) (chunks_entries s p cs) ≡ filter_map (λ c. number c.section) cs
 chunks_begin number channels s p [] all = refl
 chunks_begin number channels s p (c ∷ cs) all =
-    let none = each (Within channels c.section) (λ e. begun number e ≡ None) c.body (λ e w. ap (option_and_then number) w.begins) all.0 in
     ap (cons_option (number c.section)) (filter_map-append (begun number) c.body (chunks_entries c.section c.part cs)
-    ∙ (λ j. filter_map-none (begun number) c.body none j ++ chunks_begin number channels c.section c.part cs all.1 j))
+    ∙ (λ j. filter_map-none (begun number) c.body (each (Within channels c.section) _ _ (λ e w. ap (option_and_then number) w.begins) all.0) j
+    ++ chunks_begin number channels c.section c.part cs all.1 j))
 
 all_begin : (number : Section → Option ℕ) (show : Show) → Valid show → number NoRecord ≡ None
     → filter_map (begun number) (show_entries show) ≡ filter_map (λ c. number c.section) (chunks_of show)
@@ -55,7 +54,7 @@ spoken_chunks : (channels : ℕ) (s : Section) (p : ℕ) (cs : List Chunk) → A
 spoken_chunks channels s p [] all = refl
 spoken_chunks channels s p (c ∷ cs) all =
     filter-append speaks c.body (chunks_entries c.section c.part cs)
-    ∙ (λ j. filter_all speaks c.body (each (Within channels c.section) (λ e. speaks e ≡ true) c.body (λ e w. w.inside) all.0) j
+    ∙ (λ j. filter_all speaks c.body (each (Within channels c.section) _ _ (λ e w. w.inside) all.0) j
     ++ spoken_chunks channels c.section c.part cs all.1 j)
 
 abbrev is_at : ℕ → Option ℕ → Bool
@@ -74,8 +73,7 @@ standing number n channels [] all = refl
 standing number n channels (c ∷ cs) all =
     filter-append (stands_in number n) c.body (flat_map (λ c. c.body) cs)
     ∙ (λ j. filter_same (stands_in number n) (is_at n (number c.section)) c.body
-    (each (Within channels c.section) (λ e. stands_in number n e ≡ is_at n (number c.section)) c.body
-    (λ e w. ap (λ s. is_at n (number s)) w.place) all.0) j
+    (each (Within channels c.section) _ _ (λ e w. ap (λ s. is_at n (number s)) w.place) all.0) j
     ++ standing number n channels cs all.1 j)
 
 numbers_in : {A : Type 0} (number : Section → Option ℕ) (chunk : A → Chunk) (key : A → ℕ) (xs : List A)
@@ -101,7 +99,7 @@ module _ {A : Type 0} (show : Show) (valid : Valid show) (number : Section → O
 
   silent : (n : ℕ) (cs : List Chunk) → OfOthers number cs → flat_map (own number n) cs ≡ []
   silent n cs others = flat_map-none (own number n) cs
-      (each (λ c. number c.section ≡ None) (λ c. own number n c ≡ []) cs (λ c is. ap (λ o. cond (is_at n o) c.body []) is) others)
+      (each _ _ _ (λ c is. ap (λ o. cond (is_at n o) c.body []) is) others)
 
   bodies : (n : ℕ) → flat_map (own number n) (chunks_of show) ≡ picked key (λ x. (chunk x).body) n xs
   bodies n =
@@ -138,7 +136,7 @@ module _ {A : Type 0} (show : Show) (valid : Valid show) (number : Section → O
 others : {A : Type 0} (number : Section → Option ℕ) (chunk : A → Chunk) (xs : List A) → ((x : A) → number (chunk x).section ≡ None)
     → OfOthers number (map chunk xs)
 others number chunk xs none =
-    All-map (λ c. number c.section ≡ None) chunk xs (All-each (λ x. number (chunk x).section ≡ None) xs none)
+    All-map (λ c. number c.section ≡ None) chunk xs (All-each _ xs none)
 
 two_others : {A B : Type 0} (number : Section → Option ℕ) (one : A → Chunk) (other : B → Chunk) (xs : List A) (ys : List B)
     → ((x : A) → number (one x).section ≡ None) → ((y : B) → number (other y).section ≡ None)
@@ -151,24 +149,21 @@ cues_back show valid =
     records_back show valid cue_in cue_from (λ cue. cue.number) cue_chunk show.cues refl (λ cue. refl) valid.cues_sorted
     (map group_chunk show.groups ++ map sub_chunk show.subs) []
     (two_others cue_in group_chunk sub_chunk show.groups show.subs (λ g. refl) (λ s. refl)) tt (simp (append_assoc, append-nil)) cue-skim
-    (each (ValidCue show.channels) (λ cue. cue_from (cue_body cue) cue.number ≡ cue) show.cues (λ cue v. cue_back show.channels cue v)
-    valid.cues)
+    (each _ _ _ (λ cue v. cue_back show.channels cue v) valid.cues)
 
 groups_back : (show : Show) → Valid show → each_record group_in group_from (show_entries show) ≡ show.groups
 groups_back show valid =
     records_back show valid group_in group_from (λ g. g.number) group_chunk show.groups refl (λ g. refl) valid.groups_sorted []
     (map sub_chunk show.subs ++ map cue_chunk show.cues) tt
     (two_others group_in sub_chunk cue_chunk show.subs show.cues (λ s. refl) (λ cue. refl)) refl set-skim
-    (each (ValidGroup show.channels) (λ g. group_from (set_body (InGroup g.number) g) g.number ≡ g) show.groups
-    (λ g v. set_back (InGroup g.number) GROUPS show.channels g v) valid.groups)
+    (each _ _ _ (λ g v. set_back (InGroup g.number) GROUPS show.channels g v) valid.groups)
 
 subs_back : (show : Show) → Valid show → each_record sub_in sub_from (show_entries show) ≡ show.subs
 subs_back show valid =
     records_back show valid sub_in sub_from (λ s. s.number) sub_chunk show.subs refl (λ s. refl) valid.subs_sorted
     (map group_chunk show.groups) (map cue_chunk show.cues) (others sub_in group_chunk show.groups (λ g. refl))
     (others sub_in cue_chunk show.cues (λ cue. refl)) refl set-skim
-    (each (ValidSub show.channels) (λ s. sub_from (set_body (InSub s.number) s) s.number ≡ s) show.subs
-    (λ s v. set_back (InSub s.number) SUBS show.channels s v) valid.subs)
+    (each _ _ _ (λ s v. set_back (InSub s.number) SUBS show.channels s v) valid.subs)
 
 -- What is said of all entries of the records.
 chunks_plain : (channels : ℕ) (s : Section) (p : ℕ) (cs : List Chunk) → AllByRecursion (ChunkWithin channels) cs
@@ -177,7 +172,7 @@ chunks_plain channels s p [] all = tt
 chunks_plain channels s p (c ∷ cs) all = (
   search,
   all_append (λ e. Plain channels e × (rows_in e.entry ≡ [])) c.body (chunks_entries c.section c.part cs)
-      (each (Within channels c.section) (λ e. Plain channels e × (rows_in e.entry ≡ [])) c.body (λ e w. (w.plain, w.rows)) all.0)
+      (each (Within channels c.section) _ _ (λ e w. (w.plain, w.rows)) all.0)
       (chunks_plain channels c.section c.part cs all.1),
 )
 
@@ -186,9 +181,8 @@ all_plain show valid =
     let P = Plain show.channels in
     all_append P (patch_entries show.patch) (records_of show)
     (All-map P (λ row. here NoRecord 1 (Patches (row ∷ []))) show.patch
-    (each (ValidPatchRow show.channels) (λ row. P (here NoRecord 1 (Patches (row ∷ [])))) show.patch
-    (λ row v. let low = v.chan.most in search) valid.patch))
-    (each (λ e. P e × (rows_in e.entry ≡ [])) P (records_of show) (λ e w. w.0)
+    (each (ValidPatchRow show.channels) _ _ (λ row v. let low = v.chan.most in search) valid.patch))
+    (each (λ e. P e × (rows_in e.entry ≡ [])) _ _ (λ e w. w.0)
     (chunks_plain show.channels NoRecord 1 (chunks_of show) (chunks_within show valid)))
 
 -- The patch.
@@ -229,7 +223,7 @@ channels_back show valid =
     (each (Plain k) (λ e. channels_set e.entry ≡ None) rest (λ e p. p.sets) plain) in
     (λ j. fold max (unwrap_or (last_or (Some k) (set j)) DEFAULT_CHANNELS) (flat_map h (show_entries show)))
     ∙ greatest k (flat_map h rest) (All-flat_map (λ c. c ≤ k) h rest
-    (each (Plain k) (λ e. AllByRecursion (λ c. c ≤ k) (h e)) rest (λ e p. p.names) plain))
+    (each (Plain k) _ _ (λ e p. p.names) plain))
 
 pub show_back : (show : Show) → Valid show → show_from (show_entries show) ≡ show
 show_back show valid = λ j. record {
@@ -263,9 +257,9 @@ reading_back show valid =
     let rest = patch_entries show.patch ++ records_of show in
     let plain = all_plain show valid in
     let unskipped : AllByRecursion (λ e. is_skipped e.entry ≡ false) all =
-    (refl, (refl, each (Plain show.channels) (λ e. is_skipped e.entry ≡ false) rest (λ e p. p.skips) plain)) in
+    (refl, (refl, each (Plain show.channels) _ rest (λ e p. p.skips) plain)) in
     let uncleared : AllByRecursion (λ e. clears_all e.entry ≡ false) all =
-    (refl, (refl, each (Plain show.channels) (λ e. clears_all e.entry ≡ false) rest (λ e p. p.clears) plain)) in
+    (refl, (refl, each (Plain show.channels) _ rest (λ e p. p.clears) plain)) in
     let none : position (λ e. is_skipped e.entry) all ≡ None =
     rw (none_there (λ e. is_skipped e.entry) all unskipped, lt_false (length all) (length all) (omega arith)) in
     let since : show_from (after_last (λ e. clears_all e.entry) all) ≡ show =

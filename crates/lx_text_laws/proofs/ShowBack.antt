@@ -101,7 +101,7 @@ cue_within channels cue valid =
     (head_all P cue (search) (search) (λ label. search) (λ t. search) (λ m. search))
     (parts_all P n 1 cue.moves cue.parts (λ q p. search) (λ p t d. search) (λ p t d. search)
     (λ p. All-map P (λ m. level_entry s p m.chan m.level) (in_part p cue.moves)
-    (each (ValidMove channels cue.parts) (λ m. P (level_entry s p m.chan m.level)) (in_part p cue.moves)
+    (each (ValidMove channels cue.parts) _ _
     (λ m v. let low = v.chan.most in search)
     (kept_by (ValidMove channels cue.parts) (λ m. m.part == p) cue.moves valid.moves))))
 
@@ -110,7 +110,7 @@ set_within s limit channels set valid =
     let P = Within channels s in
     all_append P (label_entries s set.label) (member_entries s set.members) (maybe_all P IsLabelled s _ (λ label. search))
     (All-map P (λ m. level_entry s 1 m.chan m.level) set.members
-    (each (ValidMember channels) (λ m. P (level_entry s 1 m.chan m.level)) set.members
+    (each (ValidMember channels) _ _
     (λ m v. let low = v.chan.most in search) valid.members.each))
 
 -- all records of a show
@@ -123,10 +123,10 @@ pub all_chunks : (P : Chunk → Type 0) (show : Show) → Valid show → ((g : G
 all_chunks P show valid group sub cue =
     let k = show.channels in
     all_append P (map group_chunk show.groups) (map sub_chunk show.subs ++ map cue_chunk show.cues)
-    (All-map P group_chunk show.groups (each (ValidGroup k) (λ g. P (group_chunk g)) show.groups group valid.groups))
+    (All-map P group_chunk show.groups (each _ _ _ group valid.groups))
     (all_append P (map sub_chunk show.subs) (map cue_chunk show.cues)
-    (All-map P sub_chunk show.subs (each (ValidSub k) (λ s. P (sub_chunk s)) show.subs sub valid.subs))
-    (All-map P cue_chunk show.cues (each (ValidCue k) (λ c. P (cue_chunk c)) show.cues cue valid.cues)))
+    (All-map P sub_chunk show.subs (each _ _ _ sub valid.subs))
+    (All-map P cue_chunk show.cues (each _ _ _ cue valid.cues)))
 
 abbrev pub ChunkWithin : ℕ → Chunk → Type 0
 ChunkWithin channels c = AllWithin channels c.section c.body
