@@ -139,8 +139,7 @@ moves_back : (channels : ℕ) (cue : Cue) → ValidCue channels cue → last_of_
 moves_back channels cue valid =
     ap (last_of_each (λ m. m.chan)) (moves_of_body cue)
     ∙ last_of_each-grouped (λ m. m.chan) (λ part m. m.part == part.number) cue.moves cue.parts valid.moves_sorted
-    (each (ValidMove channels cue.parts) (λ m. list_any (λ part. m.part == part.number) cue.parts ≡ true) cue.moves
-    (λ m v. sym (has_part m.part cue.parts) ∙ v.part) valid.moves)
+    (each (ValidMove channels cue.parts) _ _ (λ m v. sym (has_part m.part cue.parts) ∙ v.part) valid.moves)
 
 -- the parts
 abbrev three : ℕ → ℕ → Part → List PlacedEntry
@@ -181,11 +180,9 @@ times_back : (of : Entry → Option (ℕ × ℕ)) (own : Part → ℕ × ℕ) (c
 times_back of own cue sorted silent levels asks =
     let view = λ (p : ℕ). filter_map-filter (λ e. of e.entry) (λ e. e.part == p) (cue_body cue)
     ∙ body_view (times_in of p) cue (λ part. cond (part.number == p) (own part ∷ []) [])
-    (each (λ e. of e.entry ≡ None) (λ e. times_in of p e ≡ None) (cue_head cue)
-    (λ e none. ap (λ o. cond (e.part == p) o None) none ∙ cond_none (e.part == p)) silent) (asks p)
+    (each _ _ _ (λ e none. ap (λ o. cond (e.part == p) o None) none ∙ cond_none (e.part == p)) silent) (asks p)
     (λ q c l. ap (λ o. cond (q == p) o None) (levels (record { chan = c; level = l } ∷ [])) ∙ cond_none (q == p)) in
-    each (λ y. picked (λ x. x.number) (λ part. own part ∷ []) y.number cue.parts ≡ own y ∷ [])
-    (λ part. last_in of (filter (λ e. e.part == part.number) (cue_body cue)) ≡ Some (own part)) cue.parts
+    each (λ y. picked (λ x. x.number) (λ part. own part ∷ []) y.number cue.parts ≡ own y ∷ []) _ _
     (λ part is. ap (last_or None) (view part.number ∙ is)) (picked-own (λ x. x.number) (λ part. own part ∷ []) cue.parts sorted)
 
 lone_cond : {A : Type 0} (b : Bool) (x : A) → lone (cond b (Some x) None) ≡ cond b (x ∷ []) []
@@ -198,12 +195,10 @@ each_part cue sorted =
     let about = λ (part : Part). filter (λ e. e.part == part.number) (cue_body cue) in
     let ups = times_back up_in (λ part. (part.up, part.up_delay)) cue sorted
     (head_all (λ e. up_in e.entry ≡ None) cue refl refl (λ label. refl) (λ t. refl) (λ m. refl)) (λ ms. refl)
-    (λ p q part. (λ j. cons_option (cond_none (q == p) j) (cons_option (cond (part.number == p) (Some (part.up, part.up_delay)) None)
-    (lone (cond_none (part.number == p) j)))) ∙ lone_cond (part.number == p) (part.up, part.up_delay)) in
+    (λ p q part. simp cond_none (lone_cond (part.number == p) (part.up, part.up_delay))) in
     let downs = times_back down_in (λ part. (part.down, part.down_delay)) cue sorted
     (head_all (λ e. down_in e.entry ≡ None) cue refl refl (λ label. refl) (λ t. refl) (λ m. refl)) (λ ms. refl)
-    (λ p q part. (λ j. cons_option (cond_none (q == p) j) (cons_option (cond_none (part.number == p) j)
-    (lone (cond (part.number == p) (Some (part.down, part.down_delay)) None)))) ∙ lone_cond (part.number == p) (part.down, part.down_delay)) in
+    (λ p q part. simp cond_none (lone_cond (part.number == p) (part.down, part.down_delay))) in
     All-both (λ part. last_in up_in (about part) ≡ Some (part.up, part.up_delay))
     (λ part. last_in down_in (about part) ≡ Some (part.down, part.down_delay)) (λ part. part_from (about part) part.number ≡ part) cue.parts
     (λ part up down j. let u = unwrap_or (up j) (DEFAULT_TIME, 0) in
@@ -217,14 +212,12 @@ first_part : (parts : List Part) → AllByRecursion ValidPart parts → IsStrict
 first_part [] valid sorted there = cc
 first_part (part ∷ parts) valid sorted there =
     let least = valid.0.number.least in
-    let none = find_none (λ x. x.number == 1) parts (each (λ x. part.number < x.number) (λ x. (x.number == 1) ≡ false) parts
-    (λ x low. eq_above x.number 1 (omega (arith, low, least))) sorted.0) in
+    let none = find_none (λ x. x.number == 1) parts (each (λ x. part.number < x.number) _ _ (λ x low. eq_above x.number 1 (omega (arith, low, least))) sorted.0) in
     let one : part.number ≡ 1 = elim (cases_Bool (part.number == 1)) [
       | inl is ↦ eqb-true part.number 1 is
       | inr is ↦ let odd = rw (is, none) at there in absurd (false≢true odd)
     ] in
-    let rest = map (λ x. x.number) parts in
-    (λ j. last_of_each (λ m. m) (1 ∷ (one j ∷ rest))) ∙ sym (λ j. last_of_each (λ m. m) (one j ∷ rest))
+    rw one
 
 parts_back : (channels : ℕ) (cue : Cue) → ValidCue channels cue → parts_from (cue_body cue) ≡ cue.parts
 parts_back channels cue valid =

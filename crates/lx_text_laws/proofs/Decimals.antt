@@ -89,13 +89,10 @@ with_end unit q r t small ok =
     let four : length t ≤ 4 = grind (arith, nat_tests, marks.1) in
     let own = whole_text q small in
     record {
-      form = (λ j. cond (any-past is_point (decimal q) t no_point j) (list_all is_digit (before j) && is_number (after j))
-          (is_number (decimal q ++ t)))
-          ∙ (λ j. cond (has_point t) (digits j && is_number (decimals t)) (is_number (decimal q ++ t)))
-          ∙ is_formed q (has_point t) (is_number (decimals t)) t small formed.0;
-      fine = ap (λ ds. nat_le (10 ^ length ds) unit) after ∙ fine.0;
-      value = (λ j. unit * number_of (before j) + number_of (after j) * unit / 10 ^ length (after j))
-          ∙ (λ j. unit * decimal-value q small j + is j);
+      form = rw (any-past is_point (decimal q) t no_point, before, after, digits)
+          (is_formed q (has_point t) (is_number (decimals t)) t small formed.0);
+      fine = rw after fine.0;
+      value = rw (before, after, decimal-value q small, is);
       text = record {
         marks = all-append is_mark (decimal q) t own.marks marks.0;
         filled = filled-append (decimal q) t own.filled;

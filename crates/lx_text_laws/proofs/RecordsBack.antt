@@ -92,10 +92,14 @@ module _ {A : Type 0} (show : Show) (valid : Valid show) (number : Section → O
   numbers : filter_map (λ c. number c.section) (chunks_of show) ≡ map key xs
   numbers =
       let h = λ (c : Chunk). number c.section in
-      ap (filter_map h) stand ∙ filter_map-append h front (map chunk xs ++ back)
-      ∙ (λ j. filter_map-none h front before j ++ (filter_map-append h (map chunk xs) back
-      ∙ (λ k. numbers_in number chunk key xs some k ++ filter_map-none h back after k)) j)
-      ∙ append-nil (map key xs)
+      rw (
+        stand,
+        filter_map-append h front (map chunk xs ++ back),
+        filter_map-none h front before,
+        filter_map-append h (map chunk xs) back,
+        filter_map-none h back after,
+        numbers_in number chunk key xs some,
+      ) (append-nil (map key xs))
 
   silent : (n : ℕ) (cs : List Chunk) → OfOthers number cs → flat_map (own number n) cs ≡ []
   silent n cs others = flat_map-none (own number n) cs
@@ -103,10 +107,15 @@ module _ {A : Type 0} (show : Show) (valid : Valid show) (number : Section → O
 
   bodies : (n : ℕ) → flat_map (own number n) (chunks_of show) ≡ picked key (λ x. (chunk x).body) n xs
   bodies n =
-      ap (flat_map (own number n)) stand ∙ flat_map-append (own number n) front (map chunk xs ++ back)
-      ∙ (λ j. silent n front before j ++ (flat_map-append (own number n) (map chunk xs) back
-      ∙ (λ k. flat_map-map (own number n) chunk xs k ++ silent n back after k)) j)
-      ∙ append-nil (flat_map (λ x. own number n (chunk x)) xs) ∙ (λ j. flat_map (λ x. cond (is_at n (some x j)) (chunk x).body []) xs)
+      rw (
+        stand,
+        flat_map-append (own number n) front (map chunk xs ++ back),
+        silent n front before,
+        flat_map-append (own number n) (map chunk xs) back,
+        silent n back after,
+        flat_map-map (own number n) chunk xs,
+      )
+      (append-nil (flat_map (λ x. own number n (chunk x)) xs) ∙ (λ j. flat_map (λ x. cond (is_at n (some x j)) (chunk x).body []) xs))
 
   about : (n : ℕ) → filter speaks (filter (stands_in number n) (records_of show)) ≡ picked key (λ x. (chunk x).body) n xs
   about n =
