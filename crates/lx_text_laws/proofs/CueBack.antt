@@ -212,7 +212,8 @@ first_part : (parts : List Part) → AllByRecursion ValidPart parts → IsStrict
 first_part [] valid sorted there = cc
 first_part (part ∷ parts) valid sorted there =
     let least = valid.0.number.least in
-    let none = find_none (λ x. x.number == 1) parts (each (λ x. part.number < x.number) _ _ (λ x low. eq_above x.number 1 (omega (arith, low, least))) sorted.0) in
+    let none = find_none (λ x. x.number == 1) parts (each (λ x. part.number < x.number) _ _
+    (λ x low. eq_above x.number 1 (omega (arith, low, least))) sorted.0) in
     let one : part.number ≡ 1 = elim (cases_Bool (part.number == 1)) [
       | inl is ↦ eqb-true part.number 1 is
       | inr is ↦ let odd = rw (is, none) at there in absurd (false≢true odd)

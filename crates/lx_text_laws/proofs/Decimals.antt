@@ -87,6 +87,7 @@ with_end unit q r t small ok =
     let after = after-past is_point (decimal q) t no_point in
     let is : number_of (decimals t) * unit / 10 ^ length (decimals t) ≡ r = grind (arith, nat_tests, value.0) in
     let four : length t ≤ 4 = grind (arith, nat_tests, marks.1) in
+    let few_digits : length (decimal q) ≤ 20 = length-decimal-le 20 q (omega arith) (omega (arith, small)) small in
     let own = whole_text q small in
     record {
       form = rw (any-past is_point (decimal q) t no_point, before, after, digits)
@@ -96,12 +97,7 @@ with_end unit q r t small ok =
       text = record {
         marks = all-append is_mark (decimal q) t own.marks marks.0;
         filled = filled-append (decimal q) t own.filled;
-        short = omega (
-          arith,
-          length-append (decimal q) t,
-          four,
-          length-decimal-le 20 q (omega arith) (omega (arith, small)) small,
-        );
+        short = omega (arith, length-append (decimal q) t, four, few_digits);
       };
     }
 

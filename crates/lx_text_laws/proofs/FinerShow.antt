@@ -1,8 +1,8 @@
 -- The show of entries in finer steps is the show in finer steps.
 use Rattle.lx_text_laws.proofs.Imports.{flat_map-map, ◌≡◌, ℕ, ◌+◌, ◌*◌, max, Bool, false, ◌==◌, Option, Some, None, List, [], ◌∷◌, map, filter, fold}
 use Rattle.lx_text_laws.proofs.Imports.{flat_map, filter_map, option_map, option_and_then, unwrap_or, position, count_by, refl, option_map_or}
-use Rattle.lx_text_laws.proofs.Imports.{list_any, after_last, last_or, ap, ◌∙◌, sym, DEFAULT_CHANNELS, DEFAULT_TIME, Form, Moves, States, Section}
-use Rattle.lx_text_laws.proofs.Imports.{InCue, Cue, Show, level_in, look_moves, from_looks, by_form, Entry, PlacedEntry, Begins, Skipped, Links}
+use Rattle.lx_text_laws.proofs.Imports.{list_any, after_last, last_or, ap, ◌∙◌, DEFAULT_CHANNELS, DEFAULT_TIME, Form, Moves, States, Section, InCue}
+use Rattle.lx_text_laws.proofs.Imports.{Cue, Show, level_in, look_moves, from_looks, by_form, Entry, PlacedEntry, Begins, Skipped, Links}
 use Rattle.lx_text_laws.proofs.Imports.{section_begun, channels_set, rows_in, levels_in, part_named, up_in, down_in, follow_in, link_in, label_in}
 use Rattle.lx_text_laws.proofs.Imports.{blocks, is_assert, is_skipped, clears_all, cue_in, group_in, sub_in, last_of_each, last_in, numbers_begun}
 use Rattle.lx_text_laws.proofs.Imports.{stands_in, each_record, label_from, part_from, moves_in, parts_from, cue_from, group_from, channels_named}
@@ -119,10 +119,7 @@ cues-finer es =
     let one = λ (n : ℕ). ap (λ about. cue_from about (10 * n))
     (filter-mapped finer_placed (stands_in cue_in (10 * n)) es ∙ (λ j. map finer_placed (filter (λ e. stands-finer n e.section j) es)))
     ∙ cue-finer (filter (stands_in cue_in n) es) n in
-    ap (map (λ n. cue_from (filter (stands_in cue_in n) (map finer_placed es)) n)) numbers
-    ∙ map-map (λ n. cue_from (filter (stands_in cue_in n) (map finer_placed es)) n) (λ n. 10 * n) (numbers_begun cue_in es)
-    ∙ (λ j. map (λ n. one n j) (numbers_begun cue_in es))
-    ∙ sym (map-map finer_cue (λ n. cue_from (filter (stands_in cue_in n) es) n) (numbers_begun cue_in es))
+    simp (numbers, map-map) (λ j. map (λ n. one n j) (numbers_begun cue_in es))
 
 -- Groups and submasters have numbers of their own.
 set-same : (es : List PlacedEntry) (n : ℕ) → group_from (map finer_placed es) n ≡ group_from es n

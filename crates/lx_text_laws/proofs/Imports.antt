@@ -47,7 +47,7 @@ pub use Rattle.lx_spec.specs.declared.PatchRow.{PatchRow}
 pub use Rattle.lx_spec.specs.declared.Section.{Section}
 pub use Rattle.lx_spec.specs.declared.Section.TheVariants.{InCue, InGroup, InSub, NoRecord, Skipping}
 pub use Rattle.lx_spec.specs.declared.TextFault.{TextFault}
-pub use Rattle.lx_spec.specs.declared.TextFault.TheVariants.{LineTooLong, OutOfRange}
+pub use Rattle.lx_spec.specs.declared.TextFault.TheVariants.{OutOfRange}
 pub use Rattle.lx_text_laws.specs.OldTexts.{ReadsFiner}
 pub use Rattle.std.proofs.lemmas.Bool.{and_parts, cases_Bool, cases_eq, not-true, or_right}
 pub use Rattle.std.proofs.lemmas.Bool.Decides.{nat_tests}

@@ -2,12 +2,12 @@
 use Rattle.lx_text_laws.proofs.Imports.{not-true, or_right, ◌≡◌, ℕ, ◌+◌, ◌==◌, ◌^◌, ◌<◌, ◌≤◌, Bool, true, false, cond, ◌||◌, ◌&&◌, nat_lt, nat_le}
 use Rattle.lx_text_laws.proofs.Imports.{not, Result, Ok, Err, List, [], ◌∷◌, ◌++◌, length, codes, decimal, refl, list_all, list_any, arith, ap, ◌∙◌}
 use Rattle.lx_text_laws.proofs.Imports.{nat_tests, and_parts, length-append, LABEL_BYTES, LINE_BYTES, CUES, CHANNELS, DIMMERS, PARTS, GROUPS, SUBS}
-use Rattle.lx_text_laws.proofs.Imports.{CUE_MAX, TextFault, LineTooLong, OutOfRange, Bad, ◌>>=◌, desk_limits, is_blank, is_filled, is_separator}
-use Rattle.lx_text_laws.proofs.Imports.{begins_comment, after_all, tokens, rest_after, label_of, read_time, read_whole, time_text, level_text}
-use Rattle.lx_text_laws.proofs.Imports.{InRange, IsLabel, IsTime, IsLevel, Section, NoRecord, InCue, InGroup, InSub, Entry, Begins, HasChannels}
-use Rattle.lx_text_laws.proofs.Imports.{Patches, HasLevels, NamesPart, HasUp, HasDown, Follows, Links, IsLabelled, Blocks, Asserts, is_end, Facts}
-use Rattle.lx_text_laws.proofs.Imports.{facts_after, number, levels, entry_of, entry_by_word, entry_by_tokens, if_few, placed, line, spaced, at_text}
-use Rattle.lx_text_laws.proofs.Imports.{cue_number_text, lt_true, lt_false, length-placed}
+use Rattle.lx_text_laws.proofs.Imports.{CUE_MAX, TextFault, OutOfRange, Bad, ◌>>=◌, desk_limits, is_blank, is_filled, is_separator, begins_comment}
+use Rattle.lx_text_laws.proofs.Imports.{after_all, tokens, rest_after, label_of, read_time, read_whole, time_text, level_text, InRange, IsLabel}
+use Rattle.lx_text_laws.proofs.Imports.{IsTime, IsLevel, Section, NoRecord, InCue, InGroup, InSub, Entry, Begins, HasChannels, Patches, HasLevels}
+use Rattle.lx_text_laws.proofs.Imports.{NamesPart, HasUp, HasDown, Follows, Links, IsLabelled, Blocks, Asserts, is_end, Facts, facts_after, number}
+use Rattle.lx_text_laws.proofs.Imports.{levels, entry_of, entry_by_word, entry_by_tokens, if_few, placed, line, spaced, at_text, cue_number_text}
+use Rattle.lx_text_laws.proofs.Imports.{lt_true, lt_false, length-placed}
 use Rattle.lx_spec.specs.declared.Word.TheVariants as words
 use Rattle.lx_text_laws.proofs.Tokens.{is_plain, stays, tokens-at, tokens-last, all-append, all-weaker}
 use Rattle.lx_text_laws.proofs.Digits.{read_whole-decimal}
@@ -71,9 +71,7 @@ level_token l low = record { plain = level_plain l low; filled = refl; short = o
 by_tokens : {most : ℕ} {body : List ℕ} {words : List (List ℕ)} (f : Facts) → Says most body words → most ≤ LINE_BYTES
     → entry_of f body ≡ entry_by_tokens f body words
 by_tokens {most} {body} f says few =
-    ap (λ b. cond b (Err (LineTooLong f.number)) (entry_by_tokens f body (tokens body)))
-    (lt_false LINE_BYTES (length body) (omega (arith, says.short, few)))
-    ∙ ap (entry_by_tokens f body) says.cut
+    rw (lt_false LINE_BYTES (length body) (omega (arith, says.short, few)), says.cut)
 
 -- a line after which the cues are the same
 said : {most : ℕ} {body : List ℕ} {words : List (List ℕ)} (s s' : Section) (p p' : ℕ) (e : Entry) → Says most body words

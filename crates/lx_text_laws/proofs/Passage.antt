@@ -61,15 +61,8 @@ line_passage f body e all is goes =
     λ rest. ap lines_of (append_assoc body (10 ∷ []) rest) ∙ lines_of-line body rest all in
     record {
       lines = 1;
-      says = λ rest.
-          ap (entries f) (cut rest)
-          ∙ ap (λ r. r >>= goes_on f (lines_of rest)) is
-          ∙ ap (λ b. cond b (Ok []) (entries (facts_after f e) (lines_of rest) >>= (λ more. Ok (here f.section f.part e ∷ more)))) goes
-          ∙ with_first (here f.section f.part e) (entries (facts_after f e) (lines_of rest));
-      counts = λ rest. ap (count_read f) (cut rest)
-          ∙ (λ j. elim (is j) as (λ _. ℕ)
-          [ Ok entry ↦ cond (is_end entry) 1 (count_read (facts_after f entry) (lines_of rest) + 1) | Err fault ↦ 1 ])
-          ∙ ap (λ b. cond b 1 (count_read (facts_after f e) (lines_of rest) + 1)) goes;
+      says = λ rest. rw (cut rest, is, goes) (with_first (here f.section f.part e) (entries (facts_after f e) (lines_of rest)));
+      counts = λ rest. rw (cut rest, count_read, is, goes);
       has = λ rest. ap length (cut rest) ∙ omega arith;
     }
 

@@ -92,14 +92,8 @@ module _ {A : Type 0} (show : Show) (valid : Valid show) (number : Section → O
   numbers : filter_map (λ c. number c.section) (chunks_of show) ≡ map key xs
   numbers =
       let h = λ (c : Chunk). number c.section in
-      rw (
-        stand,
-        filter_map-append h front (map chunk xs ++ back),
-        filter_map-none h front before,
-        filter_map-append h (map chunk xs) back,
-        filter_map-none h back after,
-        numbers_in number chunk key xs some,
-      ) (append-nil (map key xs))
+      rw (stand, filter_map-append h front (map chunk xs ++ back), filter_map-none h front before)
+      (rw (filter_map-append h (map chunk xs) back, filter_map-none h back after, append-nil) (numbers_in number chunk key xs some))
 
   silent : (n : ℕ) (cs : List Chunk) → OfOthers number cs → flat_map (own number n) cs ≡ []
   silent n cs others = flat_map-none (own number n) cs
@@ -107,15 +101,8 @@ module _ {A : Type 0} (show : Show) (valid : Valid show) (number : Section → O
 
   bodies : (n : ℕ) → flat_map (own number n) (chunks_of show) ≡ picked key (λ x. (chunk x).body) n xs
   bodies n =
-      rw (
-        stand,
-        flat_map-append (own number n) front (map chunk xs ++ back),
-        silent n front before,
-        flat_map-append (own number n) (map chunk xs) back,
-        silent n back after,
-        flat_map-map (own number n) chunk xs,
-      )
-      (append-nil (flat_map (λ x. own number n (chunk x)) xs) ∙ (λ j. flat_map (λ x. cond (is_at n (some x j)) (chunk x).body []) xs))
+      rw (stand, flat_map-append (own number n) front (map chunk xs ++ back), silent n front before)
+      (rw (flat_map-append (own number n) (map chunk xs) back, silent n back after, append-nil) (flat_map-map (own number n) chunk xs ∙ (λ j. flat_map (λ x. cond (is_at n (some x j)) (chunk x).body []) xs)))
 
   about : (n : ℕ) → filter speaks (filter (stands_in number n) (records_of show)) ≡ picked key (λ x. (chunk x).body) n xs
   about n =

@@ -1,8 +1,7 @@
 -- The tokens and lines of a text whose words are plain.
-use Rattle.lx_text_laws.proofs.Imports.{not-true, ◌≡◌, ℕ, Bool, true, false, cond, not, ◌||◌, ◌&&◌, ◌==◌, List, [], ◌∷◌, ◌++◌, map, filter, refl}
-use Rattle.lx_text_laws.proofs.Imports.{list_all, before_first, slice_split, onto_first, arith, ap, ◌∙◌, sym, and_parts, nat_tests, common_steps}
-use Rattle.lx_text_laws.proofs.Imports.{is_separator, begins_comment, is_filled, cut_lines, without_cr, lines_of, tokens, after_first, list_any}
-use Rattle.lx_text_laws.proofs.Imports.{append-nil}
+use Rattle.lx_text_laws.proofs.Imports.{not-true, ◌≡◌, ℕ, Bool, true, false, not, ◌||◌, ◌&&◌, ◌==◌, List, [], ◌∷◌, ◌++◌, map, refl, list_all}
+use Rattle.lx_text_laws.proofs.Imports.{before_first, slice_split, onto_first, arith, ap, ◌∙◌, sym, and_parts, nat_tests, common_steps, is_separator}
+use Rattle.lx_text_laws.proofs.Imports.{begins_comment, is_filled, cut_lines, without_cr, lines_of, tokens, after_first, list_any, append-nil}
 use Rattle.std.proofs.lemmas.List.Folds.{list_all-append}
 use Rattle.std.proofs.lemmas.List.Splits.{slice_split-cons_yes, slice_split-cons_no}
 
@@ -69,19 +68,14 @@ module _ (w : List ℕ) (plain : list_all is_plain w ≡ true) (filled : is_fill
   pub tokens-at : (s : ℕ) (l : List ℕ) → is_separator s ≡ true → begins_comment s ≡ false → tokens (w ++ s ∷ l) ≡ w ∷ tokens l
   tokens-at s l sep mark =
       let rest = before_first begins_comment l in
-      ap (λ v. filter is_filled (slice_split is_separator v))
-      (before-past begins_comment w (s ∷ l) uncommented ∙ ap (λ v. w ++ v) (before-step begins_comment s l mark))
-      ∙ ap (filter is_filled) (split-past is_separator w (s ∷ rest) [] (slice_split is_separator rest) whole
-      (slice_split-cons_yes is_separator s rest sep) ∙ ap (λ v. v ∷ slice_split is_separator rest) (append-nil w))
-      ∙ ap (λ b. cond b (w ∷ tokens l) (tokens l)) filled
+      rw (before-past begins_comment w (s ∷ l) uncommented, before-step begins_comment s l mark)
+      (rw (split-past is_separator w (s ∷ rest) [] _ whole (slice_split-cons_yes is_separator s rest sep), append-nil w, filled))
 
   -- a word alone
   pub tokens-last : tokens w ≡ w ∷ []
   tokens-last =
       (λ j. tokens (sym (append-nil w) j))
-      ∙ ap (λ v. filter is_filled (slice_split is_separator v)) (before-past begins_comment w [] uncommented)
-      ∙ ap (filter is_filled) (split-past is_separator w [] [] [] whole refl)
-      ∙ (λ j. filter is_filled (append-nil w j ∷ [])) ∙ ap (λ b. cond b (w ∷ []) []) filled
+      ∙ rw (before-past begins_comment w [] uncommented, split-past is_separator w [] [] [] whole refl, append-nil w, filled)
 
 -- a line whose bytes stay, and what follows it
 cut_lines-line : (body rest : List ℕ) → list_all stays body ≡ true → cut_lines (body ++ 10 ∷ rest) ≡ body ∷ cut_lines rest
@@ -89,15 +83,14 @@ cut_lines-line [] rest all = refl
 cut_lines-line (b ∷ body) rest all =
     let parts = and_parts (stays b) (list_all stays body) all in
     let odd : (b == 10) ≡ false = grind (arith, nat_tests, parts.0) in
-    ap (λ c. cond c ([] ∷ cut_lines (body ++ 10 ∷ rest)) (onto_first b (cut_lines (body ++ 10 ∷ rest)))) odd
-    ∙ ap (onto_first b) (cut_lines-line body rest parts.1)
+    rw (odd, cut_lines-line body rest parts.1)
 
 without_cr-line : (body : List ℕ) → list_all stays body ≡ true → without_cr body ≡ body
 without_cr-line [] all = refl
 without_cr-line (b ∷ body) all =
     let parts = and_parts (stays b) (list_all stays body) all in
     let odd : (b == 13) ≡ false = grind (arith, nat_tests, parts.0) in
-    ap (λ c. cond (not c) (b ∷ without_cr body) (without_cr body)) odd ∙ ap (λ v. b ∷ v) (without_cr-line body parts.1)
+    rw odd (ap (λ v. b ∷ v) (without_cr-line body parts.1))
 
 pub lines_of-line : (body rest : List ℕ) → list_all stays body ≡ true → lines_of (body ++ 10 ∷ rest) ≡ body ∷ lines_of rest
 lines_of-line body rest all = (λ j. map without_cr (cut_lines-line body rest all j))

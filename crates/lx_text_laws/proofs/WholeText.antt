@@ -26,14 +26,9 @@ new_cues (cue ∷ cues) = omega (arith, new_cues cues)
 
 chunks_new : (show : Show) → new_in (chunks_of show) ≡ length show.cues
 chunks_new show =
-    omega (
-      arith,
-      new-append (map group_chunk show.groups) (map sub_chunk show.subs ++ map cue_chunk show.cues),
-      new-append (map sub_chunk show.subs) (map cue_chunk show.cues),
-      no_new group_chunk show.groups (λ g. refl),
-      no_new sub_chunk show.subs (λ s. refl),
-      new_cues show.cues,
-    )
+    let groups = no_new group_chunk show.groups (λ g. refl) in
+    let subs = no_new sub_chunk show.subs (λ s. refl) in
+    omega (arith, new-append, groups, subs, new_cues show.cues)
 
 chunks_read_all : (show : Show) → Valid show → AllByRecursion ChunkReads (chunks_of show)
 chunks_read_all show valid =
