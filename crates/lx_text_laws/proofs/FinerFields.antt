@@ -2,9 +2,9 @@
 use Rattle.lx_text_laws.proofs.Imports.{◌≡◌, ℕ, zero, suc, ◌+◌, ◌*◌, ◌/◌, ◌%◌, ◌^◌, ◌<◌, ◌≤◌, Bool, true, false, cond, ◌&&◌, ◌==◌, nat_le, Result, Ok}
 use Rattle.lx_text_laws.proofs.Imports.{Err, List, [], ◌∷◌, length, option_map, codes, IfOk, refl, arith, ap, ◌∙◌, sym, subst, and_parts, nat_tests}
 use Rattle.lx_text_laws.proofs.Imports.{Bad, Shape, Range, ◌>>=◌, Limits, is_word, is_number, number_of, whole_part, decimals, is_decimal}
-use Rattle.lx_text_laws.proofs.Imports.{decimal_value, ranged, read_whole, read_level, read_time, read_cue_no, number, numbered, delay_at, times}
-use Rattle.lx_text_laws.proofs.Imports.{pairs, levels, triples, is_page_one, patch_entry, channels_entry, record_entry, Section, InCue, Entry}
-use Rattle.lx_text_laws.proofs.Imports.{Skipped, Begins, Links, HasChannels, HasOneDecimalMore}
+use Rattle.lx_text_laws.proofs.Imports.{decimal_value, read_whole, read_level, read_time, read_cue_no, number, numbered, delay_at, times, pairs}
+use Rattle.lx_text_laws.proofs.Imports.{levels, triples, is_page_one, patch_entry, channels_entry, record_entry, Section, InCue, Entry, Skipped}
+use Rattle.lx_text_laws.proofs.Imports.{Begins, Links, HasChannels, HasOneDecimalMore}
 use Rattle.std.proofs.Math.Nat.{pow-succ', one-le-pow, mul-div_cancel}
 
 -- What could be read is read as what f makes of it.
@@ -17,7 +17,7 @@ kept-same (Err e) = tt
 
 pub kept-then : {A B C D E : Type 0} (f : A → B) (g : C → D) (r : Result A E) (s : Result B E) (next : A → Result C E)
     (then : B → Result D E) → Kept f r s → ((x : A) → Kept g (next x) (then (f x))) → Kept g (r >>= next) (s >>= then)
-kept-then {A} {B} {C} {D} {E} f g (Ok x) s next then is more = subst (λ (v : Result B E). Kept g (next x) (v >>= then)) (sym is) (more x)
+kept-then f g (Ok x) s next then is more = rw is (more x)
 kept-then f g (Err e) s next then is more = tt
 
 pub kept-either : {A B E : Type 0} (f : A → B) (b : Bool) (one other : Result A E) (first second : Result B E) → Kept f one first
@@ -27,7 +27,7 @@ kept-either f false one other first second is more = more
 
 pub kept-where : {A B E : Type 0} (f : A → B) (b c : Bool) (r : Result A E) (s : Result B E) (e : E) → (b ≡ true → c ≡ true)
     → (b ≡ true → Kept f r s) → Kept f (cond b r (Err e)) (cond c s (Err e))
-kept-where {A} {B} {E} f true c r s e test is = subst (λ v. Kept f r (cond v s (Err e))) (sym (test refl)) (is refl)
+kept-where f true c r s e test is = rw (test refl) (is refl)
 kept-where f false c r s e test is = tt
 
 -- Numbers.
@@ -39,8 +39,8 @@ number-kept i f (Err Range) s is = tt
 whole-kept : (most now : ℕ) (token : List ℕ) → most ≤ now → Kept (λ n. n) (read_whole 1 most token) (read_whole 1 now token)
 whole-kept most now token wider =
     let n = number_of token in
-    kept-either (λ n. n) (is_number token) _ _ _ _ (kept-where (λ n. n) (nat_le 1 n && nat_le n most) (nat_le 1 n && nat_le n now) (Ok n)
-    (Ok n) Range (λ within. grind (arith, nat_tests, within, wider)) (λ within. refl)) tt
+    kept-either (λ n. n) (is_number token) _ _ _ _ (kept-where (λ n. n) _ _ (Ok n) (Ok n) Range
+    (λ within. grind (arith, nat_tests, within, wider)) (λ within. refl)) tt
 
 -- a power of ten that is no greater than another divides it
 pub record Divides (a b : ℕ) : Type 0 where
@@ -80,15 +80,12 @@ module _ (now before : Limits) (more : HasOneDecimalMore now before) where
   cue_no-kept token =
       let q = 10 ^ length (decimals token) in
       let n = decimal_value before.cue_unit token in
-      kept-where (λ n. 10 * n) (is_decimal token && nat_le q before.cue_unit) (is_decimal token && nat_le q now.cue_unit)
-      (ranged 1 before.cue_most n) (ranged 1 now.cue_most (decimal_value now.cue_unit token)) Shape
-      (λ is. let parts = and_parts (is_decimal token) (nat_le q before.cue_unit) is in
-      let wider : nat_le q now.cue_unit ≡ true = grind (arith, nat_tests, parts.1, more.unit) in
-      (λ j. parts.0 j && wider j))
-      (λ is. let parts = and_parts (is_decimal token) (nat_le q before.cue_unit) is in
-      subst (λ m. Kept (λ n. 10 * n) (ranged 1 before.cue_most n) (ranged 1 now.cue_most m)) (sym (finer_number token parts.1))
-      (kept-where (λ n. 10 * n) (nat_le 1 n && nat_le n before.cue_most) (nat_le 1 (10 * n) && nat_le (10 * n) now.cue_most)
-      (Ok n) (Ok (10 * n)) Range (λ within. grind (arith, nat_tests, within, more.cue_most)) (λ within. refl)))
+      let parts = λ (is : (is_decimal token && nat_le q before.cue_unit) ≡ true). and_parts (is_decimal token) (nat_le q before.cue_unit) is in
+      kept-where (λ n. 10 * n) _ _ _ _ Shape
+      (λ is. let fits = (parts is).1 in
+      let wider : nat_le q now.cue_unit ≡ true = grind (arith, nat_tests, fits, more.unit) in (λ j. (parts is).0 j && wider j))
+      (λ is. rw (finer_number token (parts is).1) (kept-where (λ n. 10 * n) _ _ (Ok n) (Ok (10 * n)) Range
+      (λ within. grind (arith, nat_tests, within, more.cue_most)) (λ within. refl)))
 
 -- A section, and what a line says, with cue numbers in the finer steps.
 abbrev pub finer_section : Section → Section

@@ -1,7 +1,7 @@
 -- A passage of a text: what its lines say, and what is known after them.
 use Rattle.lx_text_laws.proofs.Imports.{◌≡◌, ℕ, ◌+◌, ◌≤◌, true, false, cond, Result, Ok, Err, List, [], ◌∷◌, ◌++◌, length, refl, list_all, arith, ap}
-use Rattle.lx_text_laws.proofs.Imports.{◌∙◌, sym, subst, append_assoc, CUES, TextFault, ◌>>=◌, desk_limits, lines_of, Section, Entry, PlacedEntry}
-use Rattle.lx_text_laws.proofs.Imports.{is_end, Facts, facts_after, entry_of, entries, count_read}
+use Rattle.lx_text_laws.proofs.Imports.{◌∙◌, sym, append_assoc, CUES, TextFault, ◌>>=◌, desk_limits, lines_of, Section, Entry, PlacedEntry, is_end}
+use Rattle.lx_text_laws.proofs.Imports.{Facts, facts_after, entry_of, entries, count_read}
 use Rattle.lx_text_laws.proofs.Tokens.{stays, lines_of-line}
 
 abbrev pub here : Section → ℕ → Entry → PlacedEntry
@@ -111,7 +111,6 @@ reads_line s s' p p' body e all is goes next = record {
     number = i + 1;
     cues = cs;
     few = omega arith;
-    passage = subst (λ g. Passage (at i s p cs) g (body ++ 10 ∷ []) (here s p e ∷ [])) (next i cs)
-        (line_passage (at i s p cs) body e all (is i cs) goes);
+    passage = rw (next i cs) at (line_passage (at i s p cs) body e all (is i cs) goes);
   };
 }
