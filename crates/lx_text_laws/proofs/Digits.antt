@@ -1,12 +1,11 @@
 -- Numbers that are written in decimal digits read back.
-use Rattle.lx_text_laws.proofs.Imports.{◌≡◌, ℕ, ◌+◌, ◌-◌, ◌*◌, ◌^◌, ◌<◌, ◌≤◌, true, cond, ◌&&◌, nat_le, Ok, Err, List, []}
-use Rattle.lx_text_laws.proofs.Imports.{◌∷◌, length, fold, decimal, refl, list_all, arith, ap, ◌∙◌, nat_tests, decimal_is_IsNumeral, Shape, Range}
-use Rattle.lx_text_laws.proofs.Imports.{is_filled, is_digit, is_number, number_of, ranged, read_whole}
+use Rattle.lx_text_laws.proofs.Imports.{◌≡◌, ℕ, ◌+◌, ◌-◌, ◌*◌, ◌^◌, ◌<◌, ◌≤◌, true, cond, ◌&&◌, nat_le, Ok, Err, List, [], ◌∷◌, length, fold, decimal}
+use Rattle.lx_text_laws.proofs.Imports.{refl, list_all, arith, ap, ◌∙◌, nat_tests, decimal_is_IsNumeral, Shape, Range, is_filled, is_digit, is_number}
+use Rattle.lx_text_laws.proofs.Imports.{number_of, ranged, read_whole}
 use Rattle.std.specs.Str.Parse.{AllDigits, digits_value_after}
 use Rattle.std.specs.Char.{digit_value}
 use Rattle.std.proofs.lemmas.Str.Parse.{digit_from_value}
 use Rattle.std.proofs.lemmas.Str.{digit_value_digit}
-use Rattle.lx_text_laws.proofs.Tokens.{is_plain}
 
 pub all_digits : (ds : List ℕ) → AllDigits 10 ds → list_all is_digit ds ≡ true
 all_digits [] all = refl
@@ -37,9 +36,6 @@ decimal-number n small = λ j. decimal-filled n small j && decimal-digits n smal
 
 pub decimal-value : (n : ℕ) → n < 2 ^ 64 → number_of (decimal n) ≡ n
 decimal-value n small = folded 0 (decimal n) (decimal_is_IsNumeral n small).0.1 ∙ (decimal_is_IsNumeral n small).1
-
-pub plain_stays : (b : ℕ) → is_plain b ≡ true → is_plain b ≡ true
-plain_stays b is = is
 
 pub ranged-within : (least most n : ℕ) → least ≤ n → n ≤ most → ranged least most n ≡ Ok n
 ranged-within least most n low high =

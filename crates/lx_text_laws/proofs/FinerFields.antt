@@ -1,10 +1,10 @@
 -- What a line's numbers and lists say under wider limits, where they could be read before.
-use Rattle.lx_text_laws.proofs.Imports.{◌≡◌, ℕ, zero, suc, ◌+◌, ◌*◌, ◌/◌, ◌%◌, ◌^◌, ◌<◌, ◌≤◌, Bool, true, false, cond}
-use Rattle.lx_text_laws.proofs.Imports.{◌&&◌, ◌==◌, nat_le, Some, Result, Ok, Err, List, [], ◌∷◌, length, option_map, codes, IfOk, refl, arith}
-use Rattle.lx_text_laws.proofs.Imports.{ap, ◌∙◌, sym, subst, and_parts, nat_tests, Bad, Shape, Range, TextFault, ShortList, ◌>>=◌, Limits, is_word}
-use Rattle.lx_text_laws.proofs.Imports.{is_number, number_of, whole_part, decimals, is_decimal, decimal_value, ranged, read_whole, read_level, read_time}
-use Rattle.lx_text_laws.proofs.Imports.{read_cue_no, number, numbered, delay_at, times, pairs, levels, triples, is_page_one, patch_entry, channels_entry}
-use Rattle.lx_text_laws.proofs.Imports.{record_entry, Section, NoRecord, InCue, Skipping, Entry, Skipped, Begins, Links, HasChannels, HasOneDecimalMore}
+use Rattle.lx_text_laws.proofs.Imports.{◌≡◌, ℕ, zero, suc, ◌+◌, ◌*◌, ◌/◌, ◌%◌, ◌^◌, ◌<◌, ◌≤◌, Bool, true, false, cond, ◌&&◌, ◌==◌, nat_le, Result, Ok}
+use Rattle.lx_text_laws.proofs.Imports.{Err, List, [], ◌∷◌, length, option_map, codes, IfOk, refl, arith, ap, ◌∙◌, sym, subst, and_parts, nat_tests}
+use Rattle.lx_text_laws.proofs.Imports.{Bad, Shape, Range, ◌>>=◌, Limits, is_word, is_number, number_of, whole_part, decimals, is_decimal}
+use Rattle.lx_text_laws.proofs.Imports.{decimal_value, read_whole, read_level, read_time, read_cue_no, number, numbered, delay_at, times, pairs}
+use Rattle.lx_text_laws.proofs.Imports.{levels, triples, is_page_one, patch_entry, channels_entry, record_entry, Section, InCue, Entry, Skipped}
+use Rattle.lx_text_laws.proofs.Imports.{Begins, Links, HasChannels, HasOneDecimalMore}
 use Rattle.std.proofs.Math.Nat.{pow-succ', one-le-pow, mul-div_cancel}
 
 -- What could be read is read as what f makes of it.
@@ -17,7 +17,7 @@ kept-same (Err e) = tt
 
 pub kept-then : {A B C D E : Type 0} (f : A → B) (g : C → D) (r : Result A E) (s : Result B E) (next : A → Result C E)
     (then : B → Result D E) → Kept f r s → ((x : A) → Kept g (next x) (then (f x))) → Kept g (r >>= next) (s >>= then)
-kept-then {A} {B} {C} {D} {E} f g (Ok x) s next then is more = subst (λ (v : Result B E). Kept g (next x) (v >>= then)) (sym is) (more x)
+kept-then f g (Ok x) s next then is more = rw is (more x)
 kept-then f g (Err e) s next then is more = tt
 
 pub kept-either : {A B E : Type 0} (f : A → B) (b : Bool) (one other : Result A E) (first second : Result B E) → Kept f one first
@@ -27,7 +27,7 @@ kept-either f false one other first second is more = more
 
 pub kept-where : {A B E : Type 0} (f : A → B) (b c : Bool) (r : Result A E) (s : Result B E) (e : E) → (b ≡ true → c ≡ true)
     → (b ≡ true → Kept f r s) → Kept f (cond b r (Err e)) (cond c s (Err e))
-kept-where {A} {B} {E} f true c r s e test is = subst (λ v. Kept f r (cond v s (Err e))) (sym (test refl)) (is refl)
+kept-where f true c r s e test is = rw (test refl) (is refl)
 kept-where f false c r s e test is = tt
 
 -- Numbers.
@@ -39,9 +39,8 @@ number-kept i f (Err Range) s is = tt
 whole-kept : (most now : ℕ) (token : List ℕ) → most ≤ now → Kept (λ n. n) (read_whole 1 most token) (read_whole 1 now token)
 whole-kept most now token wider =
     let n = number_of token in
-    kept-where (λ n. n) (is_number token) (is_number token) (ranged 1 most n) (ranged 1 now n) Shape (λ is. is)
-    (λ is. kept-where (λ n. n) (nat_le 1 n && nat_le n most) (nat_le 1 n && nat_le n now) (Ok n) (Ok n) Range
-    (λ within. grind (arith, nat_tests, within, wider)) (λ within. refl))
+    kept-either (λ n. n) (is_number token) _ _ _ _ (kept-where (λ n. n) _ _ (Ok n) (Ok n) Range
+    (λ within. grind (arith, nat_tests, within, wider)) (λ within. refl)) tt
 
 -- a power of ten that is no greater than another divides it
 pub record Divides (a b : ℕ) : Type 0 where
@@ -81,15 +80,12 @@ module _ (now before : Limits) (more : HasOneDecimalMore now before) where
   cue_no-kept token =
       let q = 10 ^ length (decimals token) in
       let n = decimal_value before.cue_unit token in
-      kept-where (λ n. 10 * n) (is_decimal token && nat_le q before.cue_unit) (is_decimal token && nat_le q now.cue_unit)
-      (ranged 1 before.cue_most n) (ranged 1 now.cue_most (decimal_value now.cue_unit token)) Shape
-      (λ is. let parts = and_parts (is_decimal token) (nat_le q before.cue_unit) is in
-      let wider : nat_le q now.cue_unit ≡ true = grind (arith, nat_tests, parts.1, more.unit) in
-      (λ j. parts.0 j && wider j))
-      (λ is. let parts = and_parts (is_decimal token) (nat_le q before.cue_unit) is in
-      subst (λ m. Kept (λ n. 10 * n) (ranged 1 before.cue_most n) (ranged 1 now.cue_most m)) (sym (finer_number token parts.1))
-      (kept-where (λ n. 10 * n) (nat_le 1 n && nat_le n before.cue_most) (nat_le 1 (10 * n) && nat_le (10 * n) now.cue_most)
-      (Ok n) (Ok (10 * n)) Range (λ within. grind (arith, nat_tests, within, more.cue_most)) (λ within. refl)))
+      let parts = λ (is : (is_decimal token && nat_le q before.cue_unit) ≡ true). and_parts (is_decimal token) (nat_le q before.cue_unit) is in
+      kept-where (λ n. 10 * n) _ _ _ _ Shape
+      (λ is. let fits = (parts is).1 in
+      let wider : nat_le q now.cue_unit ≡ true = grind (arith, nat_tests, fits, more.unit) in (λ j. (parts is).0 j && wider j))
+      (λ is. rw (finer_number token (parts is).1) (kept-where (λ n. 10 * n) _ _ (Ok n) (Ok (10 * n)) Range
+      (λ within. grind (arith, nat_tests, within, more.cue_most)) (λ within. refl)))
 
 -- A section, and what a line says, with cue numbers in the finer steps.
 abbrev pub finer_section : Section → Section
@@ -107,19 +103,15 @@ pub numbered-kept : (i : ℕ) (f : ℕ → ℕ) (entry : ℕ → Entry) (read no
     → Kept finer_entry (numbered i entry read rest) (numbered i entry now rest)
 numbered-kept i f entry read now [] says reads = tt
 numbered-kept i f entry read now (token ∷ rest) says reads =
-    kept-then f finer_entry (number i (read token)) (number i (now token)) (λ n. Ok (entry n)) (λ n. Ok (entry n))
-    (number-kept i f (read token) (now token) (reads token)) (λ n. ap Ok (says n))
+    kept-then f finer_entry _ _ _ _ (number-kept i f (read token) (now token) (reads token)) (λ n. ap Ok (says n))
 
 -- a time is read without limits of the text
 pub times-kept : (i : ℕ) (entry : ℕ → ℕ → Entry) (rest : List (List ℕ)) → ((t d : ℕ) → entry t d ≡ finer_entry (entry t d))
     → Kept finer_entry (times i entry rest) (times i entry rest)
 times-kept i entry [] says = tt
 times-kept i entry (token ∷ rest) says =
-    let with_delay = λ (t : ℕ). delay_at i rest >>= (λ d. Ok (entry t d)) in
-    let time : Result ℕ TextFault = number i (read_time token) in
-    kept-then (λ t. t) finer_entry time time with_delay with_delay (kept-same time)
-    (λ t. kept-then (λ d. d) finer_entry (delay_at i rest) (delay_at i rest) (λ d. Ok (entry t d)) (λ d. Ok (entry t d))
-    (kept-same (delay_at i rest)) (λ d. ap Ok (says t d)))
+    kept-then (λ t. t) finer_entry _ _ _ _ (kept-same (number i (read_time token)))
+    (λ t. kept-then (λ d. d) finer_entry _ _ _ _ (kept-same (delay_at i rest)) (λ d. ap Ok (says t d)))
 
 -- the cue, group or submaster of a number
 pub record_entry-kept : (i : ℕ) (f : ℕ → ℕ) (section : ℕ → Section) (read now : List ℕ → Result ℕ Bad) (rest : List (List ℕ))
@@ -127,57 +119,47 @@ pub record_entry-kept : (i : ℕ) (f : ℕ → ℕ) (section : ℕ → Section) 
     → Kept finer_entry (record_entry i section read rest) (record_entry i section now rest)
 record_entry-kept i f section read now [] says reads = tt
 record_entry-kept i f section read now (token ∷ page) says reads =
-    kept-either finer_entry (is_page_one page) (numbered i (λ n. Begins (section n)) read (token ∷ [])) (Ok (Skipped (Some Skipping)))
-    (numbered i (λ n. Begins (section n)) now (token ∷ [])) (Ok (Skipped (Some Skipping)))
+    kept-either finer_entry (is_page_one page) _ _ _ _
     (numbered-kept i f (λ n. Begins (section n)) read now (token ∷ []) (λ n. ap Begins (says n)) reads) refl
 
 module _ (now before : Limits) (more : HasOneDecimalMore now before) (i : ℕ) where
   channel-kept : (token : List ℕ)
       → Kept (λ n. n) (number i (read_whole 1 before.channels token)) (number i (read_whole 1 now.channels token))
-  channel-kept token = number-kept i (λ n. n) (read_whole 1 before.channels token) (read_whole 1 now.channels token)
-      (whole-kept before.channels now.channels token more.channels)
+  channel-kept token = number-kept i (λ n. n) _ _ (whole-kept before.channels now.channels token more.channels)
 
   dimmer-kept : (token : List ℕ)
       → Kept (λ n. n) (number i (read_whole 1 before.dimmers token)) (number i (read_whole 1 now.dimmers token))
-  dimmer-kept token = number-kept i (λ n. n) (read_whole 1 before.dimmers token) (read_whole 1 now.dimmers token)
-      (whole-kept before.dimmers now.dimmers token more.dimmers)
+  dimmer-kept token = number-kept i (λ n. n) _ _ (whole-kept before.dimmers now.dimmers token more.dimmers)
 
   pairs-kept : (rest : List (List ℕ)) → Kept (λ ms. ms) (pairs before i rest) (pairs now i rest)
   pairs-kept [] = refl
   pairs-kept (c ∷ []) = tt
   pairs-kept (c ∷ l ∷ rest) =
-      let level : Result ℕ TextFault = number i (read_level l) in
-      kept-then (λ n. n) (λ ms. ms) _ _ _ _ (channel-kept c) (λ chan. kept-then (λ n. n) (λ ms. ms) level level _ _ (kept-same level)
-      (λ at. kept-then (λ ms. ms) (λ ms. ms) _ _ _ _ (pairs-kept rest) (λ ms. refl)))
+      kept-then (λ n. n) (λ ms. ms) _ _ _ _ (channel-kept c) (λ chan. kept-then (λ n. n) (λ ms. ms) _ _ _ _
+      (kept-same (number i (read_level l))) (λ at. kept-then (λ ms. ms) (λ ms. ms) _ _ _ _ (pairs-kept rest) (λ ms. refl)))
 
   pub levels-kept : (rest : List (List ℕ)) → Kept finer_entry (levels before i rest) (levels now i rest)
   levels-kept rest =
-      kept-then (λ ms. ms) finer_entry _ _ _ _
-      (kept-where (λ ms. ms) (length rest % 2 == 0) (length rest % 2 == 0) (pairs before i rest) (pairs now i rest) (ShortList i) (λ is. is)
-      (λ is. pairs-kept rest)) (λ ms. refl)
+      kept-then (λ ms. ms) finer_entry _ _ _ _ (kept-either (λ ms. ms) (length rest % 2 == 0) _ _ _ _ (pairs-kept rest) tt) (λ ms. refl)
 
   triples-kept : (rest : List (List ℕ)) → Kept (λ rows. rows) (triples before i rest) (triples now i rest)
   triples-kept [] = refl
   triples-kept (c ∷ []) = tt
   triples-kept (c ∷ e ∷ []) = tt
   triples-kept (c ∷ e ∷ l ∷ rest) =
-      let level : Result ℕ TextFault = number i (read_level l) in
       kept-then (λ n. n) (λ rows. rows) _ _ _ _ (channel-kept c) (λ chan. kept-then (λ n. n) (λ rows. rows) _ _ _ _ (dimmer-kept e)
-      (λ dimmer. kept-then (λ n. n) (λ rows. rows) level level _ _ (kept-same level)
+      (λ dimmer. kept-then (λ n. n) (λ rows. rows) _ _ _ _ (kept-same (number i (read_level l)))
       (λ at. kept-then (λ rows. rows) (λ rows. rows) _ _ _ _ (triples-kept rest) (λ rows. refl))))
 
   pub patch_entry-kept : (rest : List (List ℕ)) → Kept finer_entry (patch_entry before i rest) (patch_entry now i rest)
   patch_entry-kept [] = tt
   patch_entry-kept (page ∷ rest) =
-      kept-either finer_entry (is_page_one (page ∷ [])) _ (Ok (Skipped (Some NoRecord))) _ (Ok (Skipped (Some NoRecord)))
-      (kept-then (λ rows. rows) finer_entry _ _ _ _
-      (kept-where (λ rows. rows) (length rest % 3 == 0) (length rest % 3 == 0) (triples before i rest) (triples now i rest) (ShortList i)
-      (λ is. is) (λ is. triples-kept rest)) (λ rows. refl)) refl
+      kept-either finer_entry (is_page_one (page ∷ [])) _ _ _ _ (kept-then (λ rows. rows) finer_entry _ _ _ _
+      (kept-either (λ rows. rows) (length rest % 3 == 0) _ _ _ _ (triples-kept rest) tt) (λ rows. refl)) refl
 
   pub channels_entry-kept : (rest : List (List ℕ)) → Kept finer_entry (channels_entry before i rest) (channels_entry now i rest)
   channels_entry-kept [] = refl
   channels_entry-kept (what ∷ rest) =
-      kept-either finer_entry (is_word (codes "CHANNELS") what) (numbered i HasChannels (read_whole 1 before.channels) rest)
-      (Ok (Skipped (Some NoRecord))) (numbered i HasChannels (read_whole 1 now.channels) rest) (Ok (Skipped (Some NoRecord)))
+      kept-either finer_entry (is_word (codes "CHANNELS") what) _ _ _ _
       (numbered-kept i (λ n. n) HasChannels (read_whole 1 before.channels) (read_whole 1 now.channels) rest (λ n. refl)
       (λ token. whole-kept before.channels now.channels token more.channels)) refl

@@ -1,15 +1,16 @@
 -- What the lines of a text say under limits with a decimal more.
-use Rattle.lx_text_laws.proofs.Imports.{◌≡◌, ℕ, ◌+◌, ◌*◌, IfOk, Bool, true, false, cond, ◌||◌, ◌==◌, nat_lt, Some, None, Result, Ok}
-use Rattle.lx_text_laws.proofs.Imports.{Err, List, [], ◌∷◌, length, map, codes, refl, if◌then◌else◌, list_any, arith, ap, ◌∙◌, sym, subst}
-use Rattle.lx_text_laws.proofs.Imports.{nat_tests, length-map, PARTS, GROUPS, SUBS, TextFault, NoIdent, OutOfRange, LineTooLong, ◌>>=◌, Limits, tokens}
-use Rattle.lx_text_laws.proofs.Imports.{read_whole, read_time, read_cue_no, Facts, facts_after, with_cue_named, record_entry, Section, NoRecord, InCue, InGroup}
-use Rattle.lx_text_laws.proofs.Imports.{InSub, Skipping, Entry, PlacedEntry, Begins, Skipped, Links, NamesPart, HasUp, HasDown, Follows, Identifies, ClearsAll}
-use Rattle.lx_text_laws.proofs.Imports.{cue_in, is_end, is_too_long, is_makers_line, is_makers_record, is_unknown, is_unidentified, is_passed_over, if_few}
-use Rattle.lx_text_laws.proofs.Imports.{is_next, outer_entry, cue_entry, members_entry, stray_entry, inner_entry, entry_by_word, entry_by_tokens, entry_of}
-use Rattle.lx_text_laws.proofs.Imports.{entries, count_read, HasOneDecimalMore}
+use Rattle.lx_text_laws.proofs.Imports.{◌≡◌, ℕ, ◌+◌, ◌*◌, IfOk, Bool, true, false, cond, ◌||◌, ◌==◌, nat_lt, Some, None, Result, Ok, Err, List, []}
+use Rattle.lx_text_laws.proofs.Imports.{◌∷◌, length, map, codes, refl, list_any, arith, ap, ◌∙◌, nat_tests, length-map, PARTS, GROUPS, SUBS}
+use Rattle.lx_text_laws.proofs.Imports.{TextFault, OutOfRange, ◌>>=◌, Limits, tokens, read_whole, read_time, read_cue_no, Facts, facts_after}
+use Rattle.lx_text_laws.proofs.Imports.{with_cue_named, Section, NoRecord, InCue, InGroup, InSub, Skipping, Entry, PlacedEntry, Begins, Skipped}
+use Rattle.lx_text_laws.proofs.Imports.{Links, NamesPart, HasUp, HasDown, Follows, ClearsAll, cue_in, is_end, is_too_long, is_makers_line}
+use Rattle.lx_text_laws.proofs.Imports.{is_makers_record, is_unknown, is_unidentified, is_passed_over, if_few, is_next, outer_entry, cue_entry}
+use Rattle.lx_text_laws.proofs.Imports.{members_entry, stray_entry, inner_entry, entry_by_word, entry_by_tokens, entry_of, entries, count_read}
+use Rattle.lx_text_laws.proofs.Imports.{HasOneDecimalMore}
 use Rattle.lx_spec.specs.declared.Word.{Word}
 use Rattle.lx_spec.specs.declared.Word.TheVariants as words
 use Rattle.lx_spec.specs.FirstWord.{word_of, is_inner}
+use Rattle.lx_text_laws.proofs.Passage.{goes_on}
 use Rattle.lx_text_laws.proofs.FinerLists.{any-mapped, tenfold-eq, placed-tenfold}
 use Rattle.lx_text_laws.proofs.FinerFields.{Kept, kept-same, kept-then, kept-either, kept-where, cue_no-kept, finer_section, finer_entry}
 use Rattle.lx_text_laws.proofs.FinerFields.{numbered-kept, times-kept, record_entry-kept, levels-kept, patch_entry-kept}
@@ -46,29 +47,23 @@ module _ (now : Limits) (f : Facts) (more : HasOneDecimalMore now f.limits) wher
   few-kept (Begins (InCue n)) =
       let there : list_any (λ m. m == 10 * n) (map (λ m. 10 * m) f.cues) ≡ list_any (λ m. m == n) f.cues =
       any-mapped (λ m. 10 * m) (λ m. m == 10 * n) f.cues ∙ (λ j. list_any (λ m. tenfold-eq m n j) f.cues) in
-      kept-where finer_entry (list_any (λ m. m == n) f.cues || nat_lt (length f.cues) f.limits.cues)
-      (list_any (λ m. m == 10 * n) (map (λ m. 10 * m) f.cues) || nat_lt (length (map (λ m. 10 * m) f.cues)) now.cues)
-      (Ok (Begins (InCue n))) (Ok (Begins (InCue (10 * n)))) (OutOfRange f.number)
-      (λ is. ap (λ b. b || nat_lt (length (map (λ m. 10 * m) f.cues)) now.cues) there
-      ∙ or_true (list_any (λ m. m == n) f.cues) (nat_lt (length f.cues) f.limits.cues) (nat_lt (length (map (λ m. 10 * m) f.cues)) now.cues)
-      (λ low. grind (arith, nat_tests, low, more.cues, length-map f.cues (λ m. 10 * m))) is)
-      (λ is. refl)
+      rw (there, length-map f.cues (λ m. 10 * m)) (kept-where finer_entry _ _ (Ok (Begins (InCue n))) (Ok (Begins (InCue (10 * n))))
+      (OutOfRange f.number) (or_true (list_any (λ m. m == n) f.cues) (nat_lt (length f.cues) f.limits.cues) (nat_lt (length f.cues) now.cues)
+      (λ low. grind (arith, nat_tests, low, more.cues))) (λ is. refl))
   few-kept (Begins other) = refl
   few-kept (Skipped s) = refl
   few-kept (Links n) = refl
   few-kept other = refl
 
   outer-kept : (word : Word) (rest : List (List ℕ)) → Reads (outer_entry f word rest) (outer_entry (finer_facts now f) word rest)
-  outer-kept words.Ident rest = elim (is_next (codes "3:0") rest) as (λ b. Reads (cond b (Ok Identifies) (Err (NoIdent f.number)))
-      (cond b (Ok Identifies) (Err (NoIdent f.number)))) [ true ↦ refl | false ↦ tt ]
+  outer-kept words.Ident rest = kept-either finer_entry (is_next (codes "3:0") rest) _ _ _ _ refl tt
   outer-kept words.Maker rest = refl
   outer-kept words.Clear rest = elim (is_next (codes "ALL") rest) as (λ b. Reads (Ok (cond b ClearsAll (Skipped (Some NoRecord))))
       (Ok (cond b ClearsAll (Skipped (Some NoRecord))))) [ true ↦ refl | false ↦ refl ]
   outer-kept words.Set rest = channels_entry-kept now f.limits more f.number rest
   outer-kept words.Patch rest = patch_entry-kept now f.limits more f.number rest
   outer-kept words.Cue rest =
-      kept-then finer_entry finer_entry (record_entry f.number InCue (read_cue_no f.limits) rest)
-      (record_entry f.number InCue (read_cue_no now) rest) (if_few f) (if_few (finer_facts now f))
+      kept-then finer_entry finer_entry _ _ (if_few f) (if_few (finer_facts now f))
       (record_entry-kept f.number (λ n. 10 * n) InCue (read_cue_no f.limits) (read_cue_no now) rest (λ n. refl)
       (cue_no-kept now f.limits more)) few-kept
   outer-kept words.Group rest = record_entry-kept f.number (λ n. n) InGroup (read_whole 1 GROUPS) (read_whole 1 GROUPS) rest (λ n. refl)
@@ -112,29 +107,13 @@ module _ (now : Limits) (f : Facts) (more : HasOneDecimalMore now f.limits) wher
   inner-kept NoRecord line word rest = stray-kept word
   inner-kept Skipping line word rest = refl
 
-  -- by the tests that a word is put to
-  abbrev tested : Facts → List ℕ → Word → List (List ℕ) → Bool → Bool → Result Entry TextFault
-  tested k line word rest makers passed =
-      if makers then Ok (Skipped None)
-      else if is_makers_record word then Ok (Skipped (Some Skipping))
-      else if is_unknown word then Ok (Skipped None)
-      else if is_unidentified k.identified word then Err (NoIdent k.number)
-      else if passed then Ok (Skipped None)
-      else if is_inner word then inner_entry k.section k line word rest
-      else outer_entry k word rest
-
   word-kept : (line : List ℕ) (word : Word) (rest : List (List ℕ))
       → Reads (entry_by_word f line word rest) (entry_by_word (finer_facts now f) line word rest)
   word-kept line word rest =
-      subst (λ s. Reads (entry_by_word f line word rest) s)
-      (λ j. tested (finer_facts now f) line word rest (sym (makers-same f.section word) j) (sym (passed-same f.section word) j))
-      (kept-either finer_entry (is_makers_line f.section word) (Ok (Skipped None)) _ (Ok (Skipped None)) _ refl
-      (kept-either finer_entry (is_makers_record word) (Ok (Skipped (Some Skipping))) _ (Ok (Skipped (Some Skipping))) _ refl
-      (kept-either finer_entry (is_unknown word) (Ok (Skipped None)) _ (Ok (Skipped None)) _ refl
-      (kept-either finer_entry (is_unidentified f.identified word) (Err (NoIdent f.number)) _ (Err (NoIdent f.number)) _ tt
-      (kept-either finer_entry (is_passed_over f.section word) (Ok (Skipped None)) _ (Ok (Skipped None)) _ refl
-      (kept-either finer_entry (is_inner word) (inner_entry f.section f line word rest) (outer_entry f word rest)
-      (inner_entry (finer_section f.section) (finer_facts now f) line word rest) (outer_entry (finer_facts now f) word rest)
+      rw (makers-same f.section word, passed-same f.section word)
+      (kept-either finer_entry (is_makers_line f.section word) _ _ _ _ refl (kept-either finer_entry (is_makers_record word) _ _ _ _ refl
+      (kept-either finer_entry (is_unknown word) _ _ _ _ refl (kept-either finer_entry (is_unidentified f.identified word) _ _ _ _ tt
+      (kept-either finer_entry (is_passed_over f.section word) _ _ _ _ refl (kept-either finer_entry (is_inner word) _ _ _ _
       (inner-kept f.section line word rest) (outer-kept word rest)))))))
 
   tokens-kept : (line : List ℕ) (ts : List (List ℕ)) → Reads (entry_by_tokens f line ts) (entry_by_tokens (finer_facts now f) line ts)
@@ -142,8 +121,7 @@ module _ (now : Limits) (f : Facts) (more : HasOneDecimalMore now f.limits) wher
   tokens-kept line (first ∷ rest) = word-kept line (word_of first) rest
 
   pub entry_of-kept : (line : List ℕ) → Reads (entry_of f line) (entry_of (finer_facts now f) line)
-  entry_of-kept line = kept-either finer_entry (is_too_long line) (Err (LineTooLong f.number)) (entry_by_tokens f line (tokens line))
-      (Err (LineTooLong f.number)) (entry_by_tokens (finer_facts now f) line (tokens line)) tt (tokens-kept line (tokens line))
+  entry_of-kept line = kept-either finer_entry (is_too_long line) _ _ _ _ tt (tokens-kept line (tokens line))
 
 named-tenfold : (s : Section) (ns : List ℕ)
     → with_cue_named (cue_in (finer_section s)) (map (λ n. 10 * n) ns) ≡ map (λ n. 10 * n) (with_cue_named (cue_in s) ns)
@@ -159,26 +137,15 @@ after-finer now f (Skipped None) = refl
 after-finer now f (Links n) = refl
 after-finer now f other = refl
 
--- a line's entry with where it stands
-abbrev here : Facts → Entry → PlacedEntry
-here f entry = record { section = f.section; part = f.part; entry = entry }
-
-abbrev goes_on : Facts → List (List ℕ) → Entry → Result (List PlacedEntry) TextFault
-goes_on f lines entry = cond (is_end entry) (Ok []) (entries (facts_after f entry) lines >>= (λ all. Ok (here f entry ∷ all)))
-
 pub entries-kept : (now : Limits) (f : Facts) (lines : List (List ℕ)) → HasOneDecimalMore now f.limits
     → Kept (map finer_placed) (entries f lines) (entries (finer_facts now f) lines)
 entries-kept now f [] more = tt
 entries-kept now f (line ∷ lines) more =
     kept-then finer_entry (map finer_placed) (entry_of f line) (entry_of (finer_facts now f) line) (goes_on f lines)
     (goes_on (finer_facts now f) lines) (entry_of-kept now f more line)
-    (λ entry. subst (λ (s : Result (List PlacedEntry) TextFault). Kept (map finer_placed) (goes_on f lines entry) s)
-    (λ j. cond (sym (end-same entry) j) (Ok [])
-    (entries (sym (after-finer now f entry) j) lines >>= (λ all. Ok (finer_placed (here f entry) ∷ all))))
-    (kept-either (map finer_placed) (is_end entry) (Ok []) _ (Ok []) _ refl
-    (kept-then (map finer_placed) (map finer_placed) (entries (facts_after f entry) lines)
-    (entries (finer_facts now (facts_after f entry)) lines) (λ all. Ok (here f entry ∷ all))
-    (λ all. Ok (finer_placed (here f entry) ∷ all)) (entries-kept now (facts_after f entry) lines more) (λ all. refl))))
+    (λ entry. rw (end-same entry, after-finer now f entry)
+    (kept-either (map finer_placed) (is_end entry) _ _ _ _ refl
+    (kept-then (map finer_placed) (map finer_placed) _ _ _ _ (entries-kept now (facts_after f entry) lines more) (λ all. refl))))
 
 -- How many lines are read.
 abbrev counted : Facts → List (List ℕ) → Result Entry TextFault → ℕ
@@ -200,13 +167,7 @@ count-step : (now : Limits) (f : Facts) (lines : List (List ℕ)) (r s : Result 
     (λ all. count_read (finer_facts now (facts_after f e)) lines ≡ count_read (facts_after f e) lines))
     → IfOk (r >>= goes_on f lines) (λ all. counted (finer_facts now f) lines s ≡ counted f lines r)
 count-step now f lines (Ok entry) s is rest =
-    let m = count_read (finer_facts now (facts_after f entry)) lines in
-    let n = count_read (facts_after f entry) lines in
-    let it : counted (finer_facts now f) lines s ≡ cond (is_end entry) 1 (m + 1) =
-    ap (counted (finer_facts now f) lines) is ∙ (λ j. cond (end-same entry j) 1 (count_read (after-finer now f entry j) lines + 1)) in
-    subst (λ k. IfOk (goes_on f lines entry) (λ all. k ≡ cond (is_end entry) 1 (n + 1))) (sym it)
-    (unless_ended (is_end entry) (entries (facts_after f entry) lines >>= (λ all. Ok (here f entry ∷ all))) (m + 1) (n + 1)
-    (one_more (here f entry) m n (entries (facts_after f entry) lines) (rest entry)))
+    rw (is, end-same entry, after-finer now f entry) (unless_ended (is_end entry) _ _ _ (one_more _ _ _ _ (rest entry)))
 count-step now f lines (Err fault) s is rest = tt
 
 pub count-kept : (now : Limits) (f : Facts) (lines : List (List ℕ)) → HasOneDecimalMore now f.limits

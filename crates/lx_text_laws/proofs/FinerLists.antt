@@ -1,8 +1,9 @@
 -- What is asked of a list whose entries are mapped, and sorted lists under a map that keeps the order of their numbers.
-use Rattle.lx_text_laws.proofs.Imports.{◌≡◌, ℕ, ◌+◌, ◌-◌, ◌*◌, Bool, true, false, cond, not, ◌||◌, ◌==◌, nat_lt, Option, Some, None}
-use Rattle.lx_text_laws.proofs.Imports.{List, [], ◌∷◌, ◌++◌, map, reverse, drop, filter, filter_map, flat_map, fold, option_map, position, count_by}
-use Rattle.lx_text_laws.proofs.Imports.{refl, list_any, cons_option, last_or, after_last, prefix_len, arith, ap, ◌∙◌, sym, nat_tests, map-append}
-use Rattle.lx_text_laws.proofs.Imports.{drop-map, length-map, placed, last_of_each, map_reversed}
+use Rattle.lx_text_laws.proofs.Imports.{◌≡◌, ℕ, ◌+◌, ◌-◌, ◌*◌, Bool, true, false, cond, not, ◌||◌, ◌==◌, nat_lt, Option, Some, None, List, [], ◌∷◌}
+use Rattle.lx_text_laws.proofs.Imports.{◌++◌, map, reverse, drop, filter, filter_map, fold, option_map, position, count_by, refl, list_any}
+use Rattle.lx_text_laws.proofs.Imports.{cons_option, last_or, after_last, prefix_len, arith, ap, ◌∙◌, sym, nat_tests, map-append, drop-map}
+use Rattle.lx_text_laws.proofs.Imports.{length-map, placed, last_of_each, map_reversed}
+use Rattle.std.proofs.lemmas.List.Folds.{fold-map}
 
 module _ {A B : Type 0} (f : A → B) where
   pub filter-mapped : (p : B → Bool) (xs : List A) → filter p (map f xs) ≡ map f (filter (λ x. p (f x)) xs)
@@ -15,20 +16,12 @@ module _ {A B : Type 0} (f : A → B) where
   filter_map-mapped h [] = refl
   filter_map-mapped h (x ∷ xs) = ap (cons_option (h (f x))) (filter_map-mapped h xs)
 
-  pub flat_map-mapped : {C : Type 0} (h : B → List C) (xs : List A) → flat_map h (map f xs) ≡ flat_map (λ x. h (f x)) xs
-  flat_map-mapped h [] = refl
-  flat_map-mapped h (x ∷ xs) = ap (λ ys. h (f x) ++ ys) (flat_map-mapped h xs)
-
   pub any-mapped : (p : B → Bool) (xs : List A) → list_any p (map f xs) ≡ list_any (λ x. p (f x)) xs
   any-mapped p [] = refl
   any-mapped p (x ∷ xs) = ap (λ b. p (f x) || b) (any-mapped p xs)
 
-  fold-mapped : {C : Type 0} (step : C → B → C) (c : C) (xs : List A) → fold step c (map f xs) ≡ fold (λ d x. step d (f x)) c xs
-  fold-mapped step c [] = refl
-  fold-mapped step c (x ∷ xs) = fold-mapped step (step c (f x)) xs
-
   pub count-mapped : (p : B → Bool) (xs : List A) → count_by p (map f xs) ≡ count_by (λ x. p (f x)) xs
-  count-mapped p xs = fold-mapped (λ n x. n + cond (p x) 1 0) 0 xs
+  count-mapped p xs = fold-map (λ n x. n + cond (p x) 1 0) f 0 xs
 
   prefix-mapped : (p : B → Bool) (xs : List A) → prefix_len p (map f xs) ≡ prefix_len (λ x. p (f x)) xs
   prefix-mapped p [] = refl

@@ -1,13 +1,14 @@
 -- The show of entries in finer steps is the show in finer steps.
-use Rattle.lx_text_laws.proofs.Imports.{◌≡◌, ℕ, ◌+◌, ◌*◌, max, Bool, false, ◌==◌, Option, Some, None, List, [], ◌∷◌, map, filter}
-use Rattle.lx_text_laws.proofs.Imports.{fold, flat_map, filter_map, option_map, option_and_then, unwrap_or, position, count_by, refl, option_map_or, list_any}
-use Rattle.lx_text_laws.proofs.Imports.{after_last, last_or, ap, ◌∙◌, sym, DEFAULT_CHANNELS, DEFAULT_TIME, Form, Moves, States, Section, InCue, Cue}
-use Rattle.lx_text_laws.proofs.Imports.{MemberSet, Show, level_in, look_moves, from_looks, by_form, Entry, PlacedEntry, Begins, Skipped, Links, section_begun}
-use Rattle.lx_text_laws.proofs.Imports.{channels_set, rows_in, levels_in, part_named, up_in, down_in, follow_in, link_in, label_in, blocks, is_assert}
-use Rattle.lx_text_laws.proofs.Imports.{is_skipped, clears_all, cue_in, group_in, sub_in, last_of_each, last_in, numbers_begun, stands_in, each_record}
-use Rattle.lx_text_laws.proofs.Imports.{label_from, part_from, moves_in, parts_from, cue_from, members_from, group_from, sub_from, channels_named, show_from}
-use Rattle.lx_text_laws.proofs.Imports.{reading_from, finer_cue, finer}
-use Rattle.lx_text_laws.proofs.FinerLists.{filter-mapped, filter_map-mapped, flat_map-mapped, any-mapped, count-mapped, position-mapped}
+use Rattle.lx_text_laws.proofs.Imports.{flat_map-map, ◌≡◌, ℕ, ◌+◌, ◌*◌, max, Bool, false, ◌==◌, Option, Some, None, List, [], ◌∷◌, map, filter, fold}
+use Rattle.lx_text_laws.proofs.Imports.{flat_map, filter_map, option_map, option_and_then, unwrap_or, position, count_by, refl, option_map_or}
+use Rattle.lx_text_laws.proofs.Imports.{list_any, after_last, last_or, ap, ◌∙◌, DEFAULT_CHANNELS, DEFAULT_TIME, Form, Moves, States, Section, InCue}
+use Rattle.lx_text_laws.proofs.Imports.{Cue, Show, level_in, look_moves, from_looks, by_form, Entry, PlacedEntry, Begins, Skipped, Links}
+use Rattle.lx_text_laws.proofs.Imports.{section_begun, channels_set, rows_in, levels_in, part_named, up_in, down_in, follow_in, link_in, label_in}
+use Rattle.lx_text_laws.proofs.Imports.{blocks, is_assert, is_skipped, clears_all, cue_in, group_in, sub_in, last_of_each, last_in, numbers_begun}
+use Rattle.lx_text_laws.proofs.Imports.{stands_in, each_record, label_from, part_from, moves_in, parts_from, cue_from, group_from, channels_named}
+use Rattle.lx_text_laws.proofs.Imports.{show_from, reading_from, finer_cue, finer}
+use mathlib.Core.List.{map-map}
+use Rattle.lx_text_laws.proofs.FinerLists.{filter-mapped, filter_map-mapped, any-mapped, count-mapped, position-mapped}
 use Rattle.lx_text_laws.proofs.FinerLists.{after_last-mapped, last-mapped, filter_map-then, tenfold-eq, last_of_each-tenfold}
 use Rattle.lx_text_laws.proofs.FinerFields.{finer_section, finer_entry}
 use Rattle.lx_text_laws.proofs.FinerLines.{finer_placed}
@@ -27,7 +28,7 @@ alike look begun skipped linked other = refl
 module _ {A : Type 0} where
   all-same : (look : Entry → List A) → Same look → (es : List PlacedEntry)
       → flat_map (λ e. look e.entry) (map finer_placed es) ≡ flat_map (λ e. look e.entry) es
-  all-same look is es = flat_map-mapped finer_placed (λ e. look e.entry) es ∙ (λ j. flat_map (λ e. is e.entry j) es)
+  all-same look is es = flat_map-map (λ e. look e.entry) finer_placed es ∙ (λ j. flat_map (λ e. is e.entry j) es)
 
   some-same : (look : Entry → Option A) → Same look → (es : List PlacedEntry)
       → filter_map (λ e. look e.entry) (map finer_placed es) ≡ filter_map (λ e. look e.entry) es
@@ -64,7 +65,7 @@ parts-same es =
     (numbers (some-same part_named (alike part_named (λ s. refl) (λ s. refl) (λ n. refl)) es j)))
 
 moves-same : (es : List PlacedEntry) → flat_map moves_in (map finer_placed es) ≡ flat_map moves_in es
-moves-same es = flat_map-mapped finer_placed moves_in es
+moves-same es = flat_map-map moves_in finer_placed es
     ∙ (λ j. flat_map (λ e. map (λ m. record { chan = m.chan; part = e.part; level = m.level }) (levels-alike e.entry j)) es)
 
 link-finer : (e : Entry) → link_in (finer_entry e) ≡ option_map (λ n. 10 * n) (link_in e)
@@ -118,56 +119,34 @@ cues-finer es =
     let one = λ (n : ℕ). ap (λ about. cue_from about (10 * n))
     (filter-mapped finer_placed (stands_in cue_in (10 * n)) es ∙ (λ j. map finer_placed (filter (λ e. stands-finer n e.section j) es)))
     ∙ cue-finer (filter (stands_in cue_in n) es) n in
-    ap (map (λ n. cue_from (filter (stands_in cue_in n) (map finer_placed es)) n)) numbers
-    ∙ map-twice (λ n. 10 * n) (λ n. cue_from (filter (stands_in cue_in n) (map finer_placed es)) n) (numbers_begun cue_in es)
-    ∙ (λ j. map (λ n. one n j) (numbers_begun cue_in es))
-    ∙ sym (map-twice (λ n. cue_from (filter (stands_in cue_in n) es) n) finer_cue (numbers_begun cue_in es))
-  where
-    map-twice : {A B C : Type 0} (f : A → B) (g : B → C) (xs : List A) → map g (map f xs) ≡ map (λ x. g (f x)) xs
-    map-twice f g [] = refl
-    map-twice f g (x ∷ xs) = ap (λ ys. g (f x) ∷ ys) (map-twice f g xs)
+    simp (numbers, map-map) (λ j. map (λ n. one n j) (numbers_begun cue_in es))
 
 -- Groups and submasters have numbers of their own.
+set-same : (es : List PlacedEntry) (n : ℕ) → group_from (map finer_placed es) n ≡ group_from es n
+set-same es n =
+    λ j. record { number = n; label = label-same es j; members = last_of_each (λ m. m.chan) (all-same levels_in levels-alike es j) }
+
 module _ (number : Section → Option ℕ) (own : (s : Section) → number (finer_section s) ≡ number s) where
-  sets-same : (from : List PlacedEntry → ℕ → MemberSet) (es : List PlacedEntry)
-      → ((about : List PlacedEntry) (n : ℕ) → from (map finer_placed about) n ≡ from about n)
-      → Same (λ e. option_and_then number (section_begun e))
-      → each_record number from (map finer_placed es) ≡ each_record number from es
-  sets-same from es each is =
-      let one = λ (n : ℕ). ap (λ about. from about n)
+  begun-same : (s : Option Section) → option_and_then number (option_map finer_section s) ≡ option_and_then number s
+  begun-same None = refl
+  begun-same (Some s) = own s
+
+  sets-same : (es : List PlacedEntry) → each_record number group_from (map finer_placed es) ≡ each_record number group_from es
+  sets-same es =
+      let begun = λ (e : Entry). option_and_then number (section_begun e) in
+      let one = λ (n : ℕ). ap (λ about. group_from about n)
       (filter-mapped finer_placed (stands_in number n) es
       ∙ (λ j. map finer_placed (filter (λ e. option_map_or (λ m. m == n) (own e.section j) false) es)))
-      ∙ each (filter (stands_in number n) es) n in
-      (λ j. map (λ n. one n j) (last_of_each (λ n. n) (some-same (λ e. option_and_then number (section_begun e)) is es j)))
-
-members-same : (es : List PlacedEntry) → members_from (map finer_placed es) ≡ members_from es
-members-same es = ap (last_of_each (λ m. m.chan)) (all-same levels_in levels-alike es)
+      ∙ set-same (filter (stands_in number n) es) n in
+      (λ j. map (λ n. one n j) (last_of_each (λ n. n) (some-same begun (alike begun own begun-same (λ n. refl)) es j)))
 
 group-own : (s : Section) → group_in (finer_section s) ≡ group_in s
 group-own (InCue n) = refl
 group-own other = refl
 
-group-begun : (s : Option Section) → option_and_then group_in (option_map finer_section s) ≡ option_and_then group_in s
-group-begun None = refl
-group-begun (Some s) = group-own s
-
-groups-same : (es : List PlacedEntry) → each_record group_in group_from (map finer_placed es) ≡ each_record group_in group_from es
-groups-same es = sets-same group_in group-own group_from es
-    (λ about g. (λ j. record { number = g; label = label-same about j; members = members-same about j }))
-    (alike (λ e. option_and_then group_in (section_begun e)) group-own group-begun (λ n. refl))
-
 sub-own : (s : Section) → sub_in (finer_section s) ≡ sub_in s
 sub-own (InCue n) = refl
 sub-own other = refl
-
-sub-begun : (s : Option Section) → option_and_then sub_in (option_map finer_section s) ≡ option_and_then sub_in s
-sub-begun None = refl
-sub-begun (Some s) = sub-own s
-
-subs-same : (es : List PlacedEntry) → each_record sub_in sub_from (map finer_placed es) ≡ each_record sub_in sub_from es
-subs-same es = sets-same sub_in sub-own sub_from es
-    (λ about s. (λ j. record { number = s; label = label-same about j; members = members-same about j }))
-    (alike (λ e. option_and_then sub_in (section_begun e)) sub-own sub-begun (λ n. refl))
 
 -- The show, and the reading.
 abbrev finer_show : Show → Show
@@ -179,8 +158,8 @@ show-finer es = λ j. record {
       (unwrap_or (last-same channels_set (alike channels_set (λ s. refl) (λ s. refl) (λ n. refl)) es j) DEFAULT_CHANNELS)
       (all-same channels_named (alike channels_named (λ s. refl) (λ s. refl) (λ n. refl)) es j);
   cues = cues-finer es j;
-  groups = groups-same es j;
-  subs = subs-same es j;
+  groups = sets-same group_in group-own es j;
+  subs = sets-same sub_in sub-own es j;
   patch = last_of_each (λ row. row.dimmer) (all-same rows_in (alike rows_in (λ s. refl) (λ s. refl) (λ n. refl)) es j);
 }
 

@@ -1,15 +1,15 @@
 -- What the proofs of this crate import from its specs and from other crates. It declares nothing.
 pub use Rattle.std.proofs.Common.{[], ℕ, ◌%◌, ◌&&◌, ◌*◌, ◌++◌, ◌+◌, ◌-◌, ◌/◌, ◌<◌, ◌==◌, ◌^◌, ◌||◌, ◌∙◌}
 pub use Rattle.std.proofs.Common.{◌∷◌, ◌≡◌, ◌≤◌, ◌⊎◌, ap, append-nil, append_assoc, arith, Bool, codes, cond, count_by, decimal, drop}
-pub use Rattle.std.proofs.Common.{eqb-true, Err, false, filter, filter_map, find, flat_map, fold, get_or, IfErr, IfOk, IfSome, if◌then◌else◌, inl, inr}
-pub use Rattle.std.proofs.Common.{is_none, is_some, length, length-append, length-take, List, map, max, nat_le, nat_lt, None, not, Ok, Option, option_and_then}
+pub use Rattle.std.proofs.Common.{eqb-true, Err, false, filter, filter_map, find, flat_map, fold, IfErr, IfOk, IfSome, if◌then◌else◌, inl, inr}
+pub use Rattle.std.proofs.Common.{is_some, length, length-append, length-take, List, map, max, nat_le, nat_lt, None, not, Ok, Option, option_and_then}
 pub use Rattle.std.proofs.Common.{option_map, position, refl, Result, reverse, Some, subst, suc, sym, take, true, unwrap_or, zero}
 pub use Rattle.lx_base.specs.declared.TheConstants.{CHANNELS, CUE_MAX, CUE_UNIT, CUES, DEFAULT_CHANNELS, DEFAULT_TIME, DIMMERS, GROUPS, INPUT_BYTES}
 pub use Rattle.lx_base.specs.declared.TheConstants.{LABEL_BYTES, LINE_BYTES, PARTS, SUBS, TIME_MAX}
 pub use Rattle.lx_io.specs.Memory.{PlainBytes, PlainStore}
-pub use Rattle.lx_spec.proofs.Comparisons.{eq_above, eq_below, eq_true, lt_false, lt_true}
+pub use Rattle.lx_spec.proofs.Comparisons.{eq_above, eq_below, eq_other, eq_true, lt_false, lt_true}
 pub use Rattle.lx_spec.proofs.Lists.{all_append, each, filter_all, filter_none, find_none, kept_by, map_reversed, passes}
-pub use Rattle.lx_spec.proofs.SortedLists.{above_seam, below_seam, IsStrictlySorted-placed, length-placed}
+pub use Rattle.lx_spec.proofs.SortedLists.{length-placed}
 pub use Rattle.lx_spec.specs.CutInput.{first_lines}
 pub use Rattle.lx_spec.specs.Entry.{Asserts, Begins, Blocks, blocks, channels_set, clears_all, ClearsAll, cue_in, down_in, Entry, follow_in, Follows, group_in}
 pub use Rattle.lx_spec.specs.Entry.{HasChannels, HasDown, HasLevels, HasUp, Identifies, is_assert, is_end, is_skipped, IsLabelled, label_in, levels_in, link_in}
@@ -26,12 +26,12 @@ pub use Rattle.lx_spec.specs.Numerals.{decimal_text, decimal_value, decimals, de
 pub use Rattle.lx_spec.specs.Numerals.{level_text, number_of, ranged, read_cue_no, read_level, read_minutes, read_seconds, read_time, read_whole, time_text}
 pub use Rattle.lx_spec.specs.Numerals.{whole_part}
 pub use Rattle.lx_spec.specs.Reading.{channels_named, count_read, cue_from, each_record, entries, group_from, label_from, last_in, last_of_each, lines_read}
-pub use Rattle.lx_spec.specs.Reading.{members_from, moves_in, numbers_begun, part_from, parts_from, Reading, reading_from, reads, reads_under, show_from}
+pub use Rattle.lx_spec.specs.Reading.{moves_in, numbers_begun, part_from, parts_from, Reading, reading_from, reads, reads_under, show_from}
 pub use Rattle.lx_spec.specs.Reading.{stands_in, sub_from}
 pub use Rattle.lx_spec.specs.Show.{Cue, Group, InRange, IsLabel, IsLevel, IsTime, MemberSet, Show, Sub, Valid, ValidCue, ValidGroup, ValidMember, ValidMove}
-pub use Rattle.lx_spec.specs.Show.{ValidPart, ValidPatchRow, ValidSub}
+pub use Rattle.lx_spec.specs.Show.{ValidPart, ValidPatchRow, ValidSet, ValidSub}
 pub use Rattle.lx_spec.specs.ShowText.{assert_text, at_text, block_text, cue_number_text, cue_text, follow_text, group_text, label_text, line, link_text}
-pub use Rattle.lx_spec.specs.ShowText.{member_text, move_text, part_text, patch_text, show_text, spaced, sub_text}
+pub use Rattle.lx_spec.specs.ShowText.{member_text, part_text, patch_text, show_text, spaced, sub_text}
 pub use Rattle.lx_spec.specs.SortedList.{entry_at, IsStrictlySorted, placed}
 pub use Rattle.lx_spec.specs.Text.{after_all, begins_comment, cut_lines, is_blank, is_filled, is_separator, is_word, label_of, lines_of, rest_after, tokens}
 pub use Rattle.lx_spec.specs.Text.{without_cr}
@@ -47,9 +47,9 @@ pub use Rattle.lx_spec.specs.declared.PatchRow.{PatchRow}
 pub use Rattle.lx_spec.specs.declared.Section.{Section}
 pub use Rattle.lx_spec.specs.declared.Section.TheVariants.{InCue, InGroup, InSub, NoRecord, Skipping}
 pub use Rattle.lx_spec.specs.declared.TextFault.{TextFault}
-pub use Rattle.lx_spec.specs.declared.TextFault.TheVariants.{LineTooLong, NoIdent, OutOfRange, ShortList}
+pub use Rattle.lx_spec.specs.declared.TextFault.TheVariants.{OutOfRange}
 pub use Rattle.lx_text_laws.specs.OldTexts.{ReadsFiner}
-pub use Rattle.std.proofs.lemmas.Bool.{and_parts}
+pub use Rattle.std.proofs.lemmas.Bool.{and_parts, cases_Bool, cases_eq, not-true, or_right}
 pub use Rattle.std.proofs.lemmas.Bool.Decides.{nat_tests}
 pub use Rattle.std.proofs.lemmas.Fmt.{decimal_is_IsNumeral, length-decimal-le}
 pub use Rattle.std.proofs.lemmas.Grind.{common_steps, flat_map-append}
@@ -59,3 +59,4 @@ pub use Rattle.std.proofs.lemmas.List.Sums.{fold-append, suffix_len_is}
 pub use Rattle.std.specs.List.{after_first, after_last, AllByRecursion, before_first, cons_option, last_or, list_all, list_any, onto_first, position_or_len}
 pub use Rattle.std.specs.List.{prefix_len, range_with_len, slice_split, suffix_len}
 pub use Rattle.std.specs.Option.{option_map_or}
+pub use Rattle.std.proofs.lemmas.List.Folds.{flat_map-map}

@@ -1,12 +1,8 @@
 -- A label that is its own has no line end, no blank before it and at most 240 bytes.
-use Rattle.lx_text_laws.proofs.Imports.{◌≡◌, ℕ, ◌≤◌, Bool, true, false, cond, ◌&&◌, List, [], ◌∷◌, filter, take, length, refl, list_all}
-use Rattle.lx_text_laws.proofs.Imports.{arith, ap, ◌∙◌, sym, length-take, LABEL_BYTES, is_blank, after_all, IsLabel}
+use Rattle.lx_text_laws.proofs.Imports.{◌≡◌, ℕ, ◌≤◌, Bool, true, false, cond, List, [], ◌∷◌, filter, take, length, refl, list_all, arith, ap, ◌∙◌}
+use Rattle.lx_text_laws.proofs.Imports.{sym, length-take, LABEL_BYTES, is_blank, after_all, IsLabel, and_parts, cases_Bool, inl, inr}
+use Rattle.lx_spec.proofs.Lists.{shorter}
 use Rattle.lx_text_laws.proofs.Tokens.{stays}
-
-filter_fewer : (test : ℕ → Bool) (xs : List ℕ) → length (filter test xs) ≤ length xs
-filter_fewer test [] = omega arith
-filter_fewer test (x ∷ xs) = elim (test x) as (λ b. length (cond b (x ∷ filter test xs) (filter test xs)) ≤ length (x ∷ xs))
-    [ true ↦ omega (arith, filter_fewer test xs) | false ↦ omega (arith, filter_fewer test xs) ]
 
 after_fewer : (test : ℕ → Bool) (xs : List ℕ) → length (after_all test xs) ≤ length xs
 after_fewer test [] = omega arith
@@ -15,33 +11,22 @@ after_fewer test (x ∷ xs) = elim (test x) as (λ b. length (cond b (after_all 
 
 filter_all : (test : ℕ → Bool) (xs : List ℕ) → length xs ≤ length (filter test xs) → list_all test xs ≡ true
 filter_all test [] full = refl
-filter_all test (x ∷ xs) full =
-    let split : (b : Bool) → length (x ∷ xs) ≤ length (cond b (x ∷ filter test xs) (filter test xs)) → (b && list_all test xs) ≡ true =
-    λ b. elim b as (λ v. length (x ∷ xs) ≤ length (cond v (x ∷ filter test xs) (filter test xs)) → (v && list_all test xs) ≡ true) [
-      | true ↦ λ h. filter_all test xs (omega (arith, h))
-      | false ↦ λ h. absurd (omega (arith, h, filter_fewer test xs))
-    ] in
-    split (test x) full
+filter_all test (x ∷ xs) full = elim (cases_Bool (test x)) [
+  | inl is ↦ rw is (filter_all test xs (omega (arith, rw is at full)))
+  | inr is ↦ absurd (omega (arith, rw is at full, shorter test xs))
+]
 
 after_none : (test : ℕ → Bool) (xs : List ℕ) → length xs ≤ length (after_all test xs) → after_all test xs ≡ xs
 after_none test [] full = refl
-after_none test (x ∷ xs) full =
-    let split : (b : Bool) → length (x ∷ xs) ≤ length (cond b (after_all test xs) (x ∷ xs)) → cond b (after_all test xs) (x ∷ xs) ≡ x ∷ xs =
-    λ b. elim b as (λ v. length (x ∷ xs) ≤ length (cond v (after_all test xs) (x ∷ xs)) → cond v (after_all test xs) (x ∷ xs) ≡ x ∷ xs) [
-      | true ↦ λ h. absurd (omega (arith, h, after_fewer test xs))
-      | false ↦ λ h. refl
-    ] in
-    split (test x) full
+after_none test (x ∷ xs) full = elim (cases_Bool (test x)) [
+  | inl is ↦ absurd (omega (arith, rw is at full, after_fewer test xs))
+  | inr is ↦ rw is
+]
 
 filter_kept : (test : ℕ → Bool) (xs : List ℕ) → list_all test xs ≡ true → filter test xs ≡ xs
 filter_kept test [] all = refl
 filter_kept test (x ∷ xs) all =
-    let split : (b : Bool) → (b && list_all test xs) ≡ true → cond b (x ∷ filter test xs) (filter test xs) ≡ x ∷ xs =
-    λ b. elim b as (λ v. (v && list_all test xs) ≡ true → cond v (x ∷ filter test xs) (filter test xs) ≡ x ∷ xs) [
-      | true ↦ λ h. ap (λ v. x ∷ v) (filter_kept test xs h)
-      | false ↦ λ h. cc
-    ] in
-    split (test x) all
+    let parts = and_parts (test x) (list_all test xs) all in rw parts.0 (ap (λ v. x ∷ v) (filter_kept test xs parts.1))
 
 pub record OwnLabel (label : List ℕ) : Type 0 where
   pub stays_all : list_all stays label ≡ true
@@ -55,7 +40,7 @@ own_label label own =
     let size : length (take LABEL_BYTES cut) ≡ length label = ap length own in
     let few = length-take LABEL_BYTES cut in
     let a = after_fewer is_blank kept in
-    let b = filter_fewer stays label in
+    let b = shorter stays label in
     let all : list_all stays label ≡ true = filter_all stays label (omega (arith, size, few, a, b)) in
     let same = filter_kept stays label all in
     let full : length kept ≤ length cut = omega (arith, size, few, a, b) in

@@ -1,67 +1,28 @@
 -- A text that is read as looks has the levels of its looks.
-use Rattle.lx_text_laws.proofs.Imports.{◌≡◌, ℕ, zero, suc, ◌+◌, ◌<◌, ◌≤◌, Bool, true, false, cond, not, ◌||◌, ◌&&◌, ◌==◌}
-use Rattle.lx_text_laws.proofs.Imports.{nat_le, Option, Some, None, Result, Ok, Err, List, [], ◌∷◌, map, filter, fold, filter_map, is_some}
-use Rattle.lx_text_laws.proofs.Imports.{option_and_then, refl, if◌then◌else◌, AllByRecursion, list_any, range_with_len, after_last, option_map_or, arith}
-use Rattle.lx_text_laws.proofs.Imports.{ap, ◌∙◌, sym, subst, eqb-true, nat_tests, Move, Moves, States, TextFault, ◌>>=◌, desk_limits, lines_of}
-use Rattle.lx_text_laws.proofs.Imports.{IsStrictlySorted, entry_at, placed, Cue, Show, InRange, cue_of, move_in, level_in, tracked, Section, PlacedEntry}
-use Rattle.lx_text_laws.proofs.Imports.{cue_in, section_begun, clears_all, first_facts, look_moves, from_looks, by_form, Reading, entries, reads, reading_from}
-use Rattle.lx_text_laws.proofs.Imports.{numbers_begun, stands_in, cue_from, show_from, each, IsStrictlySorted-placed}
+use Rattle.lx_text_laws.proofs.Imports.{cases_Bool, cases_eq, or_right, ◌≡◌, ℕ, zero, suc, ◌+◌, ◌<◌, ◌≤◌, Bool, true, false, cond, not, ◌||◌, ◌&&◌}
+use Rattle.lx_text_laws.proofs.Imports.{◌==◌, nat_le, Option, Some, None, Result, Ok, Err, List, [], ◌∷◌, map, filter, filter_map, is_some}
+use Rattle.lx_text_laws.proofs.Imports.{option_and_then, refl, if◌then◌else◌, AllByRecursion, list_any, range_with_len, after_last, option_map_or}
+use Rattle.lx_text_laws.proofs.Imports.{arith, ap, ◌∙◌, sym, subst, eqb-true, Move, Moves, States, TextFault, ◌>>=◌, desk_limits, lines_of}
+use Rattle.lx_text_laws.proofs.Imports.{IsStrictlySorted, entry_at, Cue, Show, InRange, cue_of, move_in, level_in, tracked, PlacedEntry, cue_in}
+use Rattle.lx_text_laws.proofs.Imports.{section_begun, clears_all, first_facts, look_moves, from_looks, by_form, Reading, entries, reads}
+use Rattle.lx_text_laws.proofs.Imports.{reading_from, numbers_begun, stands_in, cue_from, show_from, inl, inr, eq_true, eq_other}
 use Rattle.lx_spec.specs.EditedShow.{channels_of}
 use Rattle.lx_spec.proofs.Along.{tracked_on, along, tracked-along, step_in, along-past}
-use Rattle.lx_text_laws.proofs.SortedGroups.{All-map}
+use Rattle.std.proofs.lemmas.Map.Views.{any-filter_same}
+use Rattle.lx_spec.proofs.Comparisons.{above_or_equal}
+use Rattle.lx_spec.proofs.SortedLists.{found_number, found_valid}
+use Rattle.lx_reader.proofs.PlacedNumbers.{IsStrictlySorted-numbers}
+use Rattle.lx_text_laws.proofs.SortedGroups.{IsStrictlySorted-map}
 
 -- The moves of a look.
-any_passing : (test : ℕ → Bool) (c : ℕ) (cs : List ℕ) → list_any (λ d. d == c) (filter test cs) ≡ (test c && list_any (λ d. d == c) cs)
-any_passing test c [] = and_none (test c)
-  where
-    and_none : (b : Bool) → false ≡ (b && false)
-    and_none true = refl
-    and_none false = refl
-any_passing test c (d ∷ cs) =
-    let more = any_passing test c cs in
-    let any : Bool = list_any (λ d. d == c) cs in
-    let split : (a b : Bool) → test d ≡ a → (d == c) ≡ b
-    → list_any (λ d. d == c) (cond a (d ∷ filter test cs) (filter test cs)) ≡ (test c && (b || any)) =
-    λ a b. elim a as (λ a. test d ≡ a → (d == c) ≡ b
-    → list_any (λ d. d == c) (cond a (d ∷ filter test cs) (filter test cs)) ≡ (test c && (b || any))) [
-      | true ↦ elim b as (λ b. test d ≡ true → (d == c) ≡ b
-          → ((d == c) || list_any (λ d. d == c) (filter test cs)) ≡ (test c && (b || any))) [
-            | true ↦ λ is same. ap (λ v. v || list_any (λ d. d == c) (filter test cs)) same
-                ∙ sym (ap (λ v. v && true) (ap test (sym (eqb-true d c same)) ∙ is))
-            | false ↦ λ is other. ap (λ v. v || list_any (λ d. d == c) (filter test cs)) other ∙ more
-          ]
-      | false ↦ elim b as (λ b. test d ≡ false → (d == c) ≡ b → list_any (λ d. d == c) (filter test cs) ≡ (test c && (b || any))) [
-        | true ↦ λ is same. let no : test c ≡ false = ap test (sym (eqb-true d c same)) ∙ is in more ∙ ap (λ v. v && any) no
-            ∙ sym (ap (λ v. v && true) no)
-        | false ↦ λ is other. more
-      ]
-    ] in
-    split (test d) (d == c) refl refl
-
 any_in_range : (a n c : ℕ) → a ≤ c → c < a + n → list_any (λ d. d == c) (range_with_len a n) ≡ true
 any_in_range a zero c low high = absurd (omega (arith, low, high))
-any_in_range a (suc n) c low high =
-    let split : (b : Bool) → (a == c) ≡ b → (b || list_any (λ d. d == c) (range_with_len (a + 1) n)) ≡ true =
-    λ b. elim b as (λ b. (a == c) ≡ b → (b || list_any (λ d. d == c) (range_with_len (a + 1) n)) ≡ true) [
-      | true ↦ λ is. refl
-      | false ↦ λ is. let above : a + 1 ≤ c = grind (arith, nat_tests, is, low) in any_in_range (a + 1) n c above (omega (arith, high))
-    ] in
-    split (a == c) refl
-
-move_found : (make : ℕ → Move) (cs : List ℕ) (c : ℕ) → ((d : ℕ) → (make d).chan ≡ d)
-    → entry_at (λ m. m.chan) c (map make cs) ≡ cond (list_any (λ d. d == c) cs) (Some (make c)) None
-move_found make [] c own = refl
-move_found make (d ∷ cs) c own =
-    let more = move_found make cs c own in
-    let any : Bool = list_any (λ d. d == c) cs in
-    let split : (b : Bool) → (d == c) ≡ b → cond b (Some (make d)) (entry_at (λ m. m.chan) c (map make cs))
-    ≡ cond (b || any) (Some (make c)) None =
-    λ b. elim b as (λ b. (d == c) ≡ b → cond b (Some (make d)) (entry_at (λ m. m.chan) c (map make cs))
-    ≡ cond (b || any) (Some (make c)) None) [
-      | true ↦ λ is. ap (λ k. Some (make k)) (eqb-true d c is)
-      | false ↦ λ is. more
-    ] in
-    ap (λ k. cond (k == c) (Some (make d)) (entry_at (λ m. m.chan) c (map make cs))) (own d) ∙ split (d == c) refl
+any_in_range a (suc n) c low high = elim (cases_eq a c) [
+  | inl is ↦ rw (eq_true a c is)
+  | inr other ↦
+      let above : a < c = above_or_equal a c low (λ is. other (sym is)) in
+      rw (eq_other a c other) (any_in_range (a + 1) n c (omega (arith, above)) (omega (arith, high)))
+]
 
 abbrev look_of : Show → (ℕ → ℕ) → Cue → Cue
 look_of show before cue = record cue { moves = look_moves show before cue }
@@ -73,6 +34,14 @@ kept before cue c = if cue.block then 0 else before c
 abbrev made : Cue → ℕ → Move
 made cue c = record { chan = c; part = option_map_or (λ m. m.part) (move_in cue c) 1; level = level_in cue c }
 
+move_found : (cue : Cue) (cs : List ℕ) (c : ℕ)
+    → entry_at (λ m. m.chan) c (map (made cue) cs) ≡ cond (list_any (λ d. d == c) cs) (Some (made cue c)) None
+move_found cue [] c = refl
+move_found cue (d ∷ cs) c = elim (cases_Bool (d == c)) [
+  | inl is ↦ rw is (ap (λ k. Some (made cue k)) (eqb-true d c is))
+  | inr other ↦ rw other (move_found cue cs c)
+]
+
 and_true : (a b : Bool) → b ≡ true → (a && b) ≡ a
 and_true true b is = is
 and_true false b is = refl
@@ -81,15 +50,11 @@ look_move : (show : Show) (before : ℕ → ℕ) (cue : Cue) (c : ℕ) → InRan
     → move_in (look_of show before cue) c ≡ cond (not (level_in cue c == kept before cue c)) (Some (made cue c)) None
 look_move show before cue c range =
     let changed = λ (d : ℕ). not (level_in cue d == kept before cue d) in
-    move_found (made cue) (filter changed (channels_of show)) c (λ d. refl)
+    let all = channels_of show in
+    move_found cue (filter changed all) c
     ∙ ap (λ b. cond b (Some (made cue c)) None)
-    (any_passing changed c (channels_of show)
-    ∙ and_true (changed c) (list_any (λ d. d == c) (channels_of show))
-    (any_in_range 1 show.channels c range.least (omega (arith, range.most))))
-
-or_true : (b : Bool) → (b || true) ≡ true
-or_true true = refl
-or_true false = refl
+    (any-filter_same (λ d. d == c) changed (changed c) (λ d same. ap changed (eqb-true d c same)) all
+    ∙ and_true (changed c) (list_any (λ d. d == c) all) (any_in_range 1 show.channels c range.least (omega (arith, range.most))))
 
 abbrev by_move : Bool → Option Move → ℕ → ℕ
 by_move block o level = cond (block || is_some o) (option_map_or (λ m. m.level) o 0) level
@@ -104,9 +69,9 @@ look_level : (show : Show) (before : ℕ → ℕ) (cue : Cue) (c level : ℕ) �
 look_level show before cue c level range was =
     let l : ℕ = level_in cue c in
     let split : (b : Bool) → (l == kept before cue c) ≡ b → by_move cue.block (cond (not b) (Some (made cue c)) None) (before c) ≡ l =
-    λ b. elim b as (λ b. (l == kept before cue c) ≡ b → by_move cue.block (cond (not b) (Some (made cue c)) None) (before c) ≡ l) [
+    elim [
       | true ↦ λ is. kept_level cue.block l (before c) is
-      | false ↦ λ is. ap (λ v. cond v l (before c)) (or_true cue.block)
+      | false ↦ λ is. ap (λ v. cond v l (before c)) (or_right cue.block true refl)
     ] in
     (λ j. by_move cue.block (look_move show before cue c range j) (was j)) ∙ split (l == kept before cue c) refl
 
@@ -116,17 +81,6 @@ above_kept : (show : Show) (n : ℕ) (before : ℕ → ℕ) (cues : List Cue) �
 above_kept show n before [] all = tt
 above_kept show n before (x ∷ cues) all = (all.0, above_kept show n (level_in x) cues all.1)
 
-found_above : (m n : ℕ) (cues : List Cue) (cue : Cue) → AllByRecursion (λ x. m < x.number) cues → entry_at (λ x. x.number) n cues ≡ Some cue
-    → m < n
-found_above m n [] cue all is = cc
-found_above m n (x ∷ cues) cue all is =
-    let split : (b : Bool) → (x.number == n) ≡ b → cond b (Some x) (entry_at (λ x. x.number) n cues) ≡ Some cue → m < n =
-    λ b. elim b as (λ b. (x.number == n) ≡ b → cond b (Some x) (entry_at (λ x. x.number) n cues) ≡ Some cue → m < n) [
-      | true ↦ λ same found. subst (λ k. m < k) (eqb-true x.number n same) all.0
-      | false ↦ λ other found. found_above m n cues cue all.1 found
-    ] in
-    split (x.number == n) refl is
-
 looks_along : (show : Show) (before : ℕ → ℕ) (cues : List Cue) (cue : Cue) (n c level : ℕ) → InRange show.channels c
     → IsStrictlySorted (λ x. x.number) cues → level ≡ before c → entry_at (λ x. x.number) n cues ≡ Some cue
     → along n c level (from_looks show before cues) ≡ level_in cue c
@@ -135,44 +89,26 @@ looks_along show before (x ∷ cues) cue n c level range sorted was is =
     let first : Cue = look_of show before x in
     let rest : List Cue = from_looks show (level_in x) cues in
     let now = look_level show before x c level range was in
-    let split : (b : Bool) → (x.number == n) ≡ b → cond b (Some x) (entry_at (λ x. x.number) n cues) ≡ Some cue
-    → along n c (cond (nat_le x.number n) (tracked_on c first level) level) rest ≡ level_in cue c
-    = λ b. elim b as (λ b. (x.number == n) ≡ b → cond b (Some x) (entry_at (λ x. x.number) n cues) ≡ Some cue
-    → along n c (cond (nat_le x.number n) (tracked_on c first level) level) rest ≡ level_in cue c) [
-      | true ↦ λ same found.
+    elim (cases_Bool (x.number == n)) [
+      | inl same ↦
           let number : x.number ≡ n = eqb-true x.number n same in
+          let found = rw same at is in
           let it : x ≡ cue = cc in
           let above = subst (λ k. AllByRecursion (λ y. k < y.number) cues) number sorted.0 in
           ap (λ v. along n c v rest) (step_in n c level first (omega (arith, number)) ∙ now)
           ∙ along-past n c (level_in x c) rest (above_kept show n (level_in x) cues above) ∙ ap (λ y. level_in y c) it
-      | false ↦ λ other found.
-          let low = found_above x.number n cues cue sorted.0 found in
+      | inr other ↦
+          let found = rw other at is in
+          let low : x.number < cue.number = found_valid (λ y. x.number < y.number) (λ y. y.number) n cues cue sorted.0 found in
           looks_along show (level_in x) cues cue n c (cond (nat_le x.number n) (tracked_on c first level) level) range sorted.1
-          (step_in n c level first (omega (arith, low)) ∙ now) found
-    ] in
-    split (x.number == n) refl is
+          (step_in n c level first (omega (arith, low, found_number (λ y. y.number) n cues cue found)) ∙ now) found
+    ]
 
 -- The cues of a show that was read are sorted.
-sorted-fold : (ns more : List ℕ) → IsStrictlySorted (λ m. m) ns → IsStrictlySorted (λ m. m) (fold (λ ys n. placed (λ m. m) n ys) ns more)
-sorted-fold ns [] sorted = sorted
-sorted-fold ns (n ∷ more) sorted = sorted-fold (placed (λ m. m) n ns) more (IsStrictlySorted-placed (λ m. m) n ns sorted)
-
-sorted-made : (make : ℕ → Cue) (ns : List ℕ) → ((n : ℕ) → (make n).number ≡ n) → IsStrictlySorted (λ m. m) ns
-    → IsStrictlySorted (λ x. x.number) (map make ns)
-sorted-made make [] own sorted = tt
-sorted-made make (n ∷ ns) own sorted = (
-  All-map (λ x. (make n).number < x.number) make ns
-      (each (λ m. n < m) (λ m. (make n).number < (make m).number) ns (λ m up. omega (arith, own n, own m, up)) sorted.0),
-  sorted-made make ns own sorted.1,
-)
-
 cues_sorted : (all : List PlacedEntry) → IsStrictlySorted (λ x. x.number) (show_from all).cues
 cues_sorted all =
-    sorted-made (λ n. cue_from (filter (stands_in cue_in n) all) n) (numbers_begun cue_in all) (λ n. refl)
-    (sorted-fold [] (filter_map (λ e. option_and_then cue_in (section_of e)) all) tt)
-  where
-    section_of : PlacedEntry → Option Section
-    section_of e = section_begun e.entry
+    IsStrictlySorted-map (λ x. x.number) (λ n. cue_from (filter (stands_in cue_in n) all) n) (numbers_begun cue_in all)
+    (IsStrictlySorted-numbers (filter_map (λ e. option_and_then cue_in (section_begun e.entry)) all))
 
 -- what a text is read as, in both forms
 pub record BothForms (named looks : Reading) : Type 0 where

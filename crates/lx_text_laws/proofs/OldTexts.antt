@@ -1,6 +1,6 @@
 -- An old text is read as the same show in finer cue numbers.
-use Rattle.lx_text_laws.proofs.Imports.{◌≡◌, ℕ, Result, Ok, Err, List, map, IfOk, ap, ◌∙◌, Form, TextFault, ◌>>=◌, Limits, lines_of}
-use Rattle.lx_text_laws.proofs.Imports.{PlacedEntry, first_facts, reading_from, entries, reads_under, count_read, HasOneDecimalMore, ReadsFiner}
+use Rattle.lx_text_laws.proofs.Imports.{◌≡◌, ℕ, Result, Ok, Err, List, map, IfOk, ap, ◌∙◌, Form, TextFault, ◌>>=◌, Limits, lines_of, PlacedEntry}
+use Rattle.lx_text_laws.proofs.Imports.{first_facts, reading_from, entries, reads_under, count_read, HasOneDecimalMore, ReadsFiner}
 use Rattle.lx_text_laws.proofs.FinerFields.{Kept}
 use Rattle.lx_text_laws.proofs.FinerLines.{finer_placed, entries-kept, count-kept}
 use Rattle.lx_text_laws.proofs.FinerShow.{reading-finer}

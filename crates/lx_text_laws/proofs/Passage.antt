@@ -1,7 +1,7 @@
 -- A passage of a text: what its lines say, and what is known after them.
-use Rattle.lx_text_laws.proofs.Imports.{◌≡◌, ℕ, ◌+◌, ◌≤◌, true, false, cond, Result, Ok, Err, List, [], ◌∷◌, ◌++◌, length, refl}
-use Rattle.lx_text_laws.proofs.Imports.{list_all, arith, ap, ◌∙◌, sym, subst, append_assoc, CUES, TextFault, ◌>>=◌, desk_limits, lines_of, Section}
-use Rattle.lx_text_laws.proofs.Imports.{Entry, PlacedEntry, is_end, Facts, facts_after, entry_of, entries, count_read}
+use Rattle.lx_text_laws.proofs.Imports.{◌≡◌, ℕ, ◌+◌, ◌≤◌, true, false, cond, Result, Ok, Err, List, [], ◌∷◌, ◌++◌, length, refl, list_all, arith, ap}
+use Rattle.lx_text_laws.proofs.Imports.{◌∙◌, sym, append_assoc, CUES, TextFault, ◌>>=◌, desk_limits, lines_of, Section, Entry, PlacedEntry, is_end}
+use Rattle.lx_text_laws.proofs.Imports.{Facts, facts_after, entry_of, entries, count_read}
 use Rattle.lx_text_laws.proofs.Tokens.{stays, lines_of-line}
 
 abbrev pub here : Section → ℕ → Entry → PlacedEntry
@@ -35,9 +35,10 @@ no_passage f = record {
       λ rest. omega arith;
 }
 
-pub then : (f g h : Facts) (a b : List ℕ) (es more : List PlacedEntry) → Passage f g a es → Passage g h b more
+infixl 20 ◌>>◌
+pub ◌>>◌ : {f g h : Facts} {a b : List ℕ} {es more : List PlacedEntry} → Passage f g a es → Passage g h b more
     → Passage f h (a ++ b) (es ++ more)
-then f g h a b es more one other = record {
+◌>>◌ {f} {g} {h} {a} {b} {es} {more} one other = record {
   lines = one.lines + other.lines;
   says = λ rest. ap (λ v. entries f (lines_of v)) (append_assoc a b rest) ∙ one.says (b ++ rest) ∙ ap (onto es) (other.says rest)
       ∙ onto-onto es more (entries h (lines_of rest));
@@ -46,23 +47,12 @@ then f g h a b es more one other = record {
 }
 
 -- one line
-abbrev goes_on : Facts → List (List ℕ) → Entry → Result (List PlacedEntry) TextFault
+abbrev pub goes_on : Facts → List (List ℕ) → Entry → Result (List PlacedEntry) TextFault
 goes_on f lines e = cond (is_end e) (Ok []) (entries (facts_after f e) lines >>= (λ more. Ok (here f.section f.part e ∷ more)))
 
 with_first : (x : PlacedEntry) (r : Result (List PlacedEntry) TextFault) → (r >>= (λ more. Ok (x ∷ more))) ≡ onto (x ∷ []) r
 with_first x (Ok es) = refl
 with_first x (Err fault) = refl
-
-abbrev counted : Facts → List (List ℕ) → Result Entry TextFault → ℕ
-counted f lines (Ok e) = cond (is_end e) 1 (count_read (facts_after f e) lines + 1)
-counted f lines (Err fault) = 1
-
-count_counted : (f : Facts) (line : List ℕ) (lines : List (List ℕ)) (r : Result Entry TextFault) → entry_of f line ≡ r
-    → count_read f (line ∷ lines) ≡ counted f lines r
-count_counted f line lines (Ok e) is = (λ j. elim (is j) as (λ _. ℕ)
-    [ Ok entry ↦ cond (is_end entry) 1 (count_read (facts_after f entry) lines + 1) | Err fault ↦ 1 ])
-count_counted f line lines (Err fault) is =
-    (λ j. elim (is j) as (λ _. ℕ) [ Ok entry ↦ cond (is_end entry) 1 (count_read (facts_after f entry) lines + 1) | Err fault ↦ 1 ])
 
 pub line_passage : (f : Facts) (body : List ℕ) (e : Entry) → list_all stays body ≡ true → entry_of f body ≡ Ok e → is_end e ≡ false
     → Passage f (facts_after f e) (body ++ 10 ∷ []) (here f.section f.part e ∷ [])
@@ -71,13 +61,8 @@ line_passage f body e all is goes =
     λ rest. ap lines_of (append_assoc body (10 ∷ []) rest) ∙ lines_of-line body rest all in
     record {
       lines = 1;
-      says = λ rest.
-          ap (entries f) (cut rest)
-          ∙ ap (λ r. r >>= goes_on f (lines_of rest)) is
-          ∙ ap (λ b. cond b (Ok []) (entries (facts_after f e) (lines_of rest) >>= (λ more. Ok (here f.section f.part e ∷ more)))) goes
-          ∙ with_first (here f.section f.part e) (entries (facts_after f e) (lines_of rest));
-      counts = λ rest. ap (count_read f) (cut rest) ∙ count_counted f body (lines_of rest) (Ok e) is
-          ∙ ap (λ b. cond b 1 (count_read (facts_after f e) (lines_of rest) + 1)) goes;
+      says = λ rest. rw (cut rest, is, goes) (with_first (here f.section f.part e) (entries (facts_after f e) (lines_of rest)));
+      counts = λ rest. rw (cut rest, count_read, is, goes);
       has = λ rest. ap length (cut rest) ∙ omega arith;
     }
 
@@ -93,34 +78,39 @@ pub record Leads (f : Facts) (text : List ℕ) (es : List PlacedEntry) (section 
   pub passage : Passage f (at number section part cues) text es
 
 -- from a section and a part to another, wherever it stands
-abbrev pub Reads : Section → ℕ → List ℕ → List PlacedEntry → Section → ℕ → ℕ → Type 0
-Reads s p text es s' p' new = (i : ℕ) (cs : List ℕ) → length cs + new ≤ CUES → Leads (at i s p cs) text es s' p' (length cs + new)
+pub record Reads (s : Section) (p : ℕ) (text : List ℕ) (es : List PlacedEntry) (s' : Section) (p' new : ℕ) : Type 0 where
+  pub leads : (i : ℕ) (cs : List ℕ) → length cs + new ≤ CUES → Leads (at i s p cs) text es s' p' (length cs + new)
 
 pub reads_none : (s : Section) (p : ℕ) → Reads s p [] [] s p 0
-reads_none s p i cs room = record { number = i; cues = cs; few = omega arith; passage = no_passage (at i s p cs) }
+reads_none s p = record {
+  leads = λ i cs room. record { number = i; cues = cs; few = omega arith; passage = no_passage (at i s p cs) };
+}
 
-pub reads_then : (s s' s'' : Section) (p p' p'' n m : ℕ) (a b : List ℕ) (es more : List PlacedEntry) → Reads s p a es s' p' n
+infixl 20 ◌and◌
+pub ◌and◌ : {s s' s'' : Section} {p p' p'' n m : ℕ} {a b : List ℕ} {es more : List PlacedEntry} → Reads s p a es s' p' n
     → Reads s' p' b more s'' p'' m → Reads s p (a ++ b) (es ++ more) s'' p'' (n + m)
-reads_then s s' s'' p p' p'' n m a b es more one other i cs room =
-    let first = one i cs (omega (arith, room)) in
-    let second = other first.number first.cues (omega (arith, room, first.few)) in
-    record {
-      number = second.number;
-      cues = second.cues;
-      few = omega (arith, first.few, second.few);
-      passage = then (at i s p cs) (at first.number s' p' first.cues) (at second.number s'' p'' second.cues) a b es more first.passage
-          second.passage;
-    }
+◌and◌ {s'' = t} {p'' = q} one other = record {
+  leads = λ i cs room.
+      let first = one.leads i cs (omega (arith, room)) in
+      let second = other.leads first.number first.cues (omega (arith, room, first.few)) in
+      record {
+        number = second.number;
+        cues = second.cues;
+        few = omega (arith, first.few, second.few);
+        passage = ◌>>◌ {h = at second.number t q second.cues} first.passage second.passage;
+      };
+}
 
 -- a line after which the cues are the same
 pub reads_line : (s s' : Section) (p p' : ℕ) (body : List ℕ) (e : Entry) → list_all stays body ≡ true
     → ((i : ℕ) (cs : List ℕ) → entry_of (at i s p cs) body ≡ Ok e) → is_end e ≡ false
     → ((i : ℕ) (cs : List ℕ) → facts_after (at i s p cs) e ≡ at (i + 1) s' p' cs)
     → Reads s p (body ++ 10 ∷ []) (here s p e ∷ []) s' p' 0
-reads_line s s' p p' body e all is goes next i cs room = record {
-  number = i + 1;
-  cues = cs;
-  few = omega arith;
-  passage = subst (λ g. Passage (at i s p cs) g (body ++ 10 ∷ []) (here s p e ∷ [])) (next i cs)
-      (line_passage (at i s p cs) body e all (is i cs) goes);
+reads_line s s' p p' body e all is goes next = record {
+  leads = λ i cs room. record {
+    number = i + 1;
+    cues = cs;
+    few = omega arith;
+    passage = rw (next i cs) at (line_passage (at i s p cs) body e all (is i cs) goes);
+  };
 }

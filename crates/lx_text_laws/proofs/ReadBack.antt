@@ -1,9 +1,8 @@
 -- What the reader answers for a text that is in memory whole, and for the canonical text of a show.
-use Rattle.lx_text_laws.proofs.Imports.{◌≡◌, ◌⊎◌, inl, inr, ℕ, zero, suc, ◌+◌, ◌<◌, ◌≤◌, Bool, true, false, Option, Some, Result}
-use Rattle.lx_text_laws.proofs.Imports.{Ok, Err, IfSome, IfOk, IfErr, List, [], ◌∷◌, length, refl, sym, ap, ◌∙◌, subst, arith, ◌==◌, cond}
-use Rattle.lx_text_laws.proofs.Imports.{INPUT_BYTES, Form, Moves, TextFault, Limits, desk_limits, Show, Valid, show_text, first_lines, Reading, reads}
-use Rattle.lx_text_laws.proofs.Imports.{reads_under, HasOneDecimalMore, finer, ReadsFiner}
-use Rattle.std.specs.Result.{result_unwrap_or}
+use Rattle.lx_text_laws.proofs.Imports.{◌≡◌, ◌⊎◌, inl, inr, ℕ, zero, suc, ◌+◌, ◌<◌, ◌≤◌, Bool, true, false, Some, Result, Ok, Err, IfSome, IfOk}
+use Rattle.lx_text_laws.proofs.Imports.{IfErr, List, [], ◌∷◌, length, refl, arith, ◌==◌, cond, INPUT_BYTES, Form, Moves, TextFault, Limits}
+use Rattle.lx_text_laws.proofs.Imports.{desk_limits, Show, Valid, show_text, first_lines, Reading, reads, reads_under, HasOneDecimalMore, finer}
+use Rattle.lx_text_laws.proofs.Imports.{ReadsFiner}
 use Rattle.lx_io.specs.Told.{ToldBySource}
 use Rattle.lx_lex.specs.declared.lines.Lines.{Lines}
 use Rattle.lx_lex.specs.Unread.{unread}
@@ -20,8 +19,7 @@ first_lines-within : (n : ℕ) (xs : List ℕ) → length (first_lines n xs) ≤
 first_lines-within n [] = omega arith
 first_lines-within zero (x ∷ xs) = omega arith
 first_lines-within (suc n) (x ∷ xs) =
-    let either : (b : Bool) → length (x ∷ first_lines (cond b n (suc n)) xs) ≤ length (x ∷ xs) =
-    λ b. elim b as (λ b. length (x ∷ first_lines (cond b n (suc n)) xs) ≤ length (x ∷ xs))
+    let either : (b : Bool) → length (x ∷ first_lines (cond b n (suc n)) xs) ≤ length (x ∷ xs) = elim
     [ true ↦ omega (arith, first_lines-within n xs) | false ↦ omega (arith, first_lines-within (suc n) xs) ] in
     either (x == 10)
 
@@ -30,22 +28,17 @@ module _ (text : List ℕ) (form : Form) {S : Type 0} (told_in : ToldBySource S)
     (is : unread told_in a ≡ Some text) (none : a.taken ≡ 0) where
   no_fault : {P : Type 0} (reading : Reading) → reads form text ≡ Ok reading → (fault : TextFault) → MeansFault told_in a form fault → P
   no_fault reading reads_ok fault means =
-      let told : reads form text ≡ Err fault =
-      subst (λ (v : Option (List ℕ)). IfSome v (λ bytes. reads form bytes ≡ Err fault)) is means.text in
-      let bad : Ok reading ≡ Err fault = sym reads_ok ∙ told in
-      absurd cc
+      let told : reads form text ≡ Err fault = rw is at means.text in cc
 
   too_long : IfSome (unread told_in a) (IsPastLimit a.taken) → INPUT_BYTES < length text
   too_long long =
-      let past : IsPastLimit a.taken text = subst (λ (v : Option (List ℕ)). IfSome v (IsPastLimit a.taken)) is long in
+      let past : IsPastLimit a.taken text = rw is at long in
       omega (arith, none, past.long, first_lines-within (past.n + 1) text)
 
   read_as : (reading : Reading) → reads form text ≡ Ok reading → (r : Result Loaded ShowFault) → AnswerOf told_in a b form r
       → (r ≡ Err faults.ReadFault → ⊥) → ComesAsReading text reading r
   read_as reading reads_ok (Ok loaded) answer never =
-      let told : reads form text ≡ Ok (reading_of loaded) =
-      subst (λ (v : Option (List ℕ)). IfSome v (λ bytes. reads form bytes ≡ Ok (reading_of loaded))) is answer.means.text in
-      ap (λ (x : Result Reading TextFault). result_unwrap_or x reading) (sym told ∙ reads_ok)
+      let told : reads form text ≡ Ok (reading_of loaded) = rw is at answer.means.text in cc
   read_as reading reads_ok (Err (faults.Text fault)) answer never = no_fault reading reads_ok fault answer
   read_as reading reads_ok (Err faults.ReadFault) answer never = absurd (never refl)
   read_as reading reads_ok (Err faults.InputTooLong) answer never = inr (refl, too_long answer.0)
@@ -78,8 +71,7 @@ module _ (show : Show) (valid : Valid show) (text : List ℕ) (is : text ≡ sho
 
   back : (r : Result Loaded ShowFault) → IsRead r → ComesAsReading (show_text show) (same show) r
   back r told =
-      let here = subst (λ t. IfOk (reads Moves t) (λ reading. ComesAsReading t reading r)) is told in
-      subst (λ (v : Result Reading TextFault). IfOk v (λ reading. ComesAsReading (show_text show) reading r)) (reads_back show valid).reading here
+      let here = rw is at told in rw (reads_back show valid).reading at here
 
   pub back_same : (r : Result Loaded ShowFault) → IsRead r → IfOk r (λ loaded. reading_of loaded ≡ same show)
   back_same (Ok loaded) told = back (Ok loaded) told
