@@ -94,39 +94,40 @@ pub cut_off : {S Since State : Type 0} (Stands : Since → State → Type 0) (to
     → NotTaken told old new → Keeps h h' → UnreadLine Stands Stands told old new h h' counted
 cut_off Stands told old new h h' counted cut kept = record { cut = cut; same = λ since s stands counts. record { kept = kept; stands = stands } }
 
--- The causes of how a line ended: the sink failed, after it had kept its counts, and no read did; or neither failed.
-module _ {S K T : Type 0} (source : ToldBySource S) (told : ToldBySink K) (old new : Lines S) (a b c : K)
-    (reads : source.faults new.source.now ≡ source.faults old.source.now) (faults : told.faults b ≡ told.faults a)
-    (wants : told.wants b ≡ told.wants a) where
-  at_sink : {U : Type 0} (fault : SinkFault) → HasSinkCause {T = U} told b c (Err fault)
-      → HasSessionCause {T = T} source told old new a c (Err (fault_of fault))
-  at_sink sinks.Failed cause = record {
-    later = omega (arith, reads);
-    sink_later = omega (arith, cause.later, faults);
-    wants_later = omega (arith, cause.wants_later, wants);
-    failed = subst (λ n. Rose n (told.faults c)) faults (cause.failed refl);
-    alone = reads;
-    kept = tt;
-  }
-  at_sink sinks.Memory cause = record {
-    later = omega (arith, reads);
-    sink_later = omega (arith, cause.later, faults);
-    wants_later = omega (arith, cause.wants_later, wants);
-    failed = subst (λ n. Rose n (told.wants c)) wants (cause.memory refl);
-    alone = reads;
-    kept = tt;
-  }
+-- The causes of how a line ended: the sink failed, after it had kept its counts, and no read did.
+pub sink_cause : {S K T U : Type 0} {source : ToldBySource S} {told : ToldBySink K} {old new : Lines S} {a b c : K} {fault : SinkFault}
+    {result : Result T SessionFault} → source.faults new.source.now ≡ source.faults old.source.now → told.faults b ≡ told.faults a
+    → told.wants b ≡ told.wants a → HasSinkCause {T = U} told b c (Err fault) → IsErr result × IsErrAnd result (λ own. own ≡ fault_of fault)
+    → HasSessionCause source told old new a c result
+sink_cause {T} {U} {source} {told} {old} {new} {a} {b} {c} {fault} {result} reads faults wants cause err =
+    through (HasSessionCause source told old new a c) result (fault_of fault) err (of fault cause) where
+      of : (fault : SinkFault) → HasSinkCause {T = U} told b c (Err fault) → HasSessionCause {T = T} source told old new a c (Err (fault_of fault))
+      of sinks.Failed cause = record {
+        later = omega (arith, reads);
+        sink_later = omega (arith, cause.later, faults);
+        wants_later = omega (arith, cause.wants_later, wants);
+        failed = subst (λ n. Rose n (told.faults c)) faults (cause.failed refl);
+        alone = reads;
+        kept = tt;
+      }
+      of sinks.Memory cause = record {
+        later = omega (arith, reads);
+        sink_later = omega (arith, cause.later, faults);
+        wants_later = omega (arith, cause.wants_later, wants);
+        failed = subst (λ n. Rose n (told.wants c)) wants (cause.memory refl);
+        alone = reads;
+        kept = tt;
+      }
 
-  pub sink_cause : {U : Type 0} (fault : SinkFault) (result : Result T SessionFault) → HasSinkCause {T = U} told b c (Err fault)
-      → IsErr result × IsErrAnd result (λ own. own ≡ fault_of fault) → HasSessionCause source told old new a c result
-  sink_cause fault result cause err = through (HasSessionCause source told old new a c) result (fault_of fault) err (at_sink fault cause)
-
-  pub kept_cause : (x : T) → told.faults c ≡ told.faults b → told.wants c ≡ told.wants b → HasSessionCause {T = T} source told old new a c (Ok x)
-  kept_cause x faults' wants' = record {
-    later = omega (arith, reads);
-    sink_later = omega (arith, faults, faults');
-    wants_later = omega (arith, wants, wants');
-    failed = tt;
-    alone = tt;
-    kept = (reads, faults' ∙ faults, wants' ∙ wants);
-  }
+-- or neither failed
+pub kept_cause : {S K T : Type 0} {source : ToldBySource S} {told : ToldBySink K} {old new : Lines S} {a c : K} {x : T}
+    → source.faults new.source.now ≡ source.faults old.source.now → told.faults c ≡ told.faults a → told.wants c ≡ told.wants a
+    → HasSessionCause source told old new a c (Ok x)
+kept_cause reads faults wants = record {
+  later = omega (arith, reads);
+  sink_later = omega (arith, faults);
+  wants_later = omega (arith, wants);
+  failed = tt;
+  alone = tt;
+  kept = (reads, faults, wants);
+}

@@ -39,15 +39,13 @@ returns-in_ok-give_reply-in-Line-clause-outcome g c = λ all ample may.
 
 pub returns-in_err-give_reply-in-Line-clause-cause : goal.returns-in_err-give_reply-in-Line-clause-cause
 returns-in_err-give_reply-in-Line-clause-cause g c =
-    sink_cause g.S.Source g.K.Sink c.args.lines.now c.advance.new.self c.args.sink.now c.flush_before_wait.new.sink c.give_reply.new.sink
-    c.in-Line.ensures.cause.kept c.in_ok-flush_before_wait.ensures.cause.kept.0 c.in_ok-flush_before_wait.ensures.cause.kept.1
-    c.in_err-give_reply-in-Line.field-0.0 c.from_residual-in_err-give_reply-in-Line.result c.in_err-give_reply-in-Line.ensures.cause c.from_residual-in_err-give_reply-in-Line.ensures
+    let kept = c.in_ok-flush_before_wait.ensures.cause.kept in
+    sink_cause c.in-Line.ensures.cause.kept kept.0 kept.1 c.in_err-give_reply-in-Line.ensures.cause c.from_residual-in_err-give_reply-in-Line.ensures
 
 pub returns-in_ok-give_reply-in-Line-clause-cause : goal.returns-in_ok-give_reply-in-Line-clause-cause
 returns-in_ok-give_reply-in-Line-clause-cause g c =
-    kept_cause g.S.Source g.K.Sink c.args.lines.now c.advance.new.self c.args.sink.now c.flush_before_wait.new.sink c.give_reply.new.sink
-    c.in-Line.ensures.cause.kept c.in_ok-flush_before_wait.ensures.cause.kept.0 c.in_ok-flush_before_wait.ensures.cause.kept.1
-    c.in_ok-give_reply-in-Line.field-0 c.in_ok-give_reply-in-Line.ensures.cause.kept.0 c.in_ok-give_reply-in-Line.ensures.cause.kept.1
+    let kept = c.in_ok-flush_before_wait.ensures.cause.kept in
+    let own = c.in_ok-give_reply-in-Line.ensures.cause.kept in kept_cause c.in-Line.ensures.cause.kept (own.0 ∙ kept.0) (own.1 ∙ kept.1)
 
 pub returns-in_err-give_reply-in-LongLine-clause-outcome : goal.returns-in_err-give_reply-in-LongLine-clause-outcome
 returns-in_err-give_reply-in-LongLine-clause-outcome g c = λ all ample may.
@@ -72,20 +70,16 @@ returns-in_ok-give_reply-in-LongLine-clause-outcome g c = λ all ample may.
 
 pub returns-in_err-give_reply-in-LongLine-clause-cause : goal.returns-in_err-give_reply-in-LongLine-clause-cause
 returns-in_err-give_reply-in-LongLine-clause-cause g c =
-    sink_cause g.S.Source g.K.Sink c.args.lines.now c.advance.new.self c.args.sink.now c.flush_before_wait.new.sink c.give_reply-in-LongLine.new.sink
-    c.in-LongLine.ensures.cause.kept c.in_ok-flush_before_wait.ensures.cause.kept.0 c.in_ok-flush_before_wait.ensures.cause.kept.1
-    c.in_err-give_reply-in-LongLine.field-0.0 c.from_residual-in_err-give_reply-in-LongLine.result c.in_err-give_reply-in-LongLine.ensures.cause c.from_residual-in_err-give_reply-in-LongLine.ensures
+    let kept = c.in_ok-flush_before_wait.ensures.cause.kept in
+    sink_cause c.in-LongLine.ensures.cause.kept kept.0 kept.1 c.in_err-give_reply-in-LongLine.ensures.cause c.from_residual-in_err-give_reply-in-LongLine.ensures
 
 pub returns-in_ok-give_reply-in-LongLine-clause-cause : goal.returns-in_ok-give_reply-in-LongLine-clause-cause
 returns-in_ok-give_reply-in-LongLine-clause-cause g c =
-    kept_cause g.S.Source g.K.Sink c.args.lines.now c.advance.new.self c.args.sink.now c.flush_before_wait.new.sink c.give_reply-in-LongLine.new.sink
-    c.in-LongLine.ensures.cause.kept c.in_ok-flush_before_wait.ensures.cause.kept.0 c.in_ok-flush_before_wait.ensures.cause.kept.1
-    c.in_ok-give_reply-in-LongLine.field-0 c.in_ok-give_reply-in-LongLine.ensures.cause.kept.0 c.in_ok-give_reply-in-LongLine.ensures.cause.kept.1
+    let kept = c.in_ok-flush_before_wait.ensures.cause.kept in
+    let own = c.in_ok-give_reply-in-LongLine.ensures.cause.kept in kept_cause c.in-LongLine.ensures.cause.kept (own.0 ∙ kept.0) (own.1 ∙ kept.1)
 
 pub returns-in_err-flush_before_wait-clause-cause : goal.returns-in_err-flush_before_wait-clause-cause
-returns-in_err-flush_before_wait-clause-cause g c =
-    sink_cause g.S.Source g.K.Sink c.args.lines.now c.args.lines.now c.args.sink.now c.args.sink.now c.flush_before_wait.new.sink refl refl refl
-    c.in_err-flush_before_wait.field-0.0 c.from_residual.result c.in_err-flush_before_wait.ensures.cause c.from_residual.ensures
+returns-in_err-flush_before_wait-clause-cause g c = sink_cause refl refl refl c.in_err-flush_before_wait.ensures.cause c.from_residual.ensures
 
 pub returns-in_err-flush-in-End-clause-outcome : goal.returns-in_err-flush-in-End-clause-outcome
 returns-in_err-flush-in-End-clause-outcome g c = λ all ample may.
@@ -98,16 +92,13 @@ returns-in_err-flush-in-End-clause-outcome g c = λ all ample may.
 
 pub returns-in_err-flush-in-End-clause-cause : goal.returns-in_err-flush-in-End-clause-cause
 returns-in_err-flush-in-End-clause-cause g c =
-    sink_cause g.S.Source g.K.Sink c.args.lines.now c.advance.new.self c.args.sink.now c.flush_before_wait.new.sink c.flush.new.self
-    c.in-End.ensures.cause.kept c.in_ok-flush_before_wait.ensures.cause.kept.0 c.in_ok-flush_before_wait.ensures.cause.kept.1
-    c.in_err-flush-in-End.field-0.0 c.from_residual-in_err-flush-in-End.result c.in_err-flush-in-End.ensures.cause
-    c.from_residual-in_err-flush-in-End.ensures
+    let kept = c.in_ok-flush_before_wait.ensures.cause.kept in
+    sink_cause c.in-End.ensures.cause.kept kept.0 kept.1 c.in_err-flush-in-End.ensures.cause c.from_residual-in_err-flush-in-End.ensures
 
 pub returns-in_ok-flush-in-End-clause-cause : goal.returns-in_ok-flush-in-End-clause-cause
 returns-in_ok-flush-in-End-clause-cause g c =
-    kept_cause g.S.Source g.K.Sink c.args.lines.now c.advance.new.self c.args.sink.now c.flush_before_wait.new.sink c.flush.new.self
-    c.in-End.ensures.cause.kept c.in_ok-flush_before_wait.ensures.cause.kept.0 c.in_ok-flush_before_wait.ensures.cause.kept.1
-    false c.in_ok-flush-in-End.ensures.cause.kept.0 c.in_ok-flush-in-End.ensures.cause.kept.1
+    let kept = c.in_ok-flush_before_wait.ensures.cause.kept in
+    let own = c.in_ok-flush-in-End.ensures.cause.kept in kept_cause c.in-End.ensures.cause.kept (own.0 ∙ kept.0) (own.1 ∙ kept.1)
 
 pub returns-in-ReadFault-clause-outcome : goal.returns-in-ReadFault-clause-outcome
 returns-in-ReadFault-clause-outcome g c = λ all ample may.
