@@ -13,7 +13,7 @@ pub use Rattle.lx_lists.specs.OtherList.{Stays, TicksReach}
 pub use Rattle.lx_lists.specs.TwoListsMeaning.{out_of_both, Steps, TakesStep, TwoKept, TwoStand, TwoWantMemory}
 pub use Rattle.lx_lists.specs.declared.output.Output.{Output}
 pub use Rattle.lx_mixer.specs.Table.{IsTable}
-pub use Rattle.lx_session.proofs.AnsweredLines.{allowed_some, counted_so, turn_answered, TurnAnswer, with_reply_is}
+pub use Rattle.lx_session.proofs.AnsweredLines.{line_answered, turn_answered, TurnAnswer, with_reply_is}
 pub use Rattle.lx_session.proofs.HeardLines.{meaning_is}
 pub use Rattle.lx_session.specs.Attempts.{Attempted, heard_of}
 pub use Rattle.lx_session.specs.LineProgress.{LineProgress}
@@ -38,5 +38,6 @@ pub use Rattle.lx_spec.specs.declared.Line.{Line}
 pub use Rattle.lx_spec.specs.declared.Refusal.{Refusal}
 pub use Rattle.lx_spec.specs.declared.Refusal.TheVariants.{Memory, TickLimit}
 pub use Rattle.std.proofs.lemmas.List.Sums.{fold-append}
+pub use Rattle.std.proofs.lemmas.Result.{IfOk-weaker, on_err_weaker}
 pub use Rattle.std.specs.List.{AllByRecursion}
 pub use Rattle.std.specs.Result.{result_err, result_unwrap_or}

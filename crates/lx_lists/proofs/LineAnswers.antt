@@ -1,12 +1,10 @@
 -- What a turn of a line means for its attempts.
 use Rattle.lx_lists.proofs.Imports.{◌≡◌, ℕ, true, false, Option, Some, None, List, refl, sym, ap, subst, ◌∙◌, IfOk, IfSome, IsTrue, Bool, Result}
-use Rattle.lx_lists.proofs.Imports.{Ok, Err, not, if◌then◌else◌, SinkFault, Line, line_of, ends_script, is_quit, command_of, where_of_second}
+use Rattle.lx_lists.proofs.Imports.{Ok, Err, not, if◌then◌else◌, SinkFault, Line, line_of, is_quit, command_of, where_of_second}
 use Rattle.lx_lists.proofs.Imports.{is_of_second, commands_second, LineState, frame_of, meaning_of, unattempted, IsLine, meaning_is}
 use Rattle.lx_spec.specs.declared.Line.TheVariants as lines
 use Rattle.lx_spec.specs.ValidEdit.{ValidLine}
 use Rattle.lx_spec.proofs.ValidLines.{line_of-valid}
-use Rattle.lx_lists.specs.SecondLines.{IsRestFor}
-use Rattle.lx_lists.proofs.SecondLines.{goes_on}
 
 pub second_start : (turn : LineState) (meaning : Option Line) → turn ≡ unattempted meaning → turn ≡ unattempted turn.meaning
 second_start turn meaning is = is ∙ ap unattempted (sym (ap (λ (t : LineState). t.meaning) is))
@@ -34,12 +32,9 @@ record IsOfSecond (meaning : Option Line) : Type 0 where
 
 of_second_by : (meaning : Line) (b : Bool) → is_of_second meaning ≡ b → IsOfSecond (if b then Some meaning else None)
 of_second_by (lines.Command c) true is = record { taken = is; quit = refl; frame = refl }
-of_second_by (lines.Ticks k) true is = absurd cc
-of_second_by (lines.Frame u) true is = absurd cc
 of_second_by lines.Save true is = record { taken = tt; quit = refl; frame = refl }
 of_second_by (lines.SheetOf n) true is = record { taken = tt; quit = refl; frame = refl }
-of_second_by lines.Quit true is = absurd cc
-of_second_by lines.Blank true is = absurd cc
+of_second_by other true is = absurd cc
 of_second_by meaning false is = record { taken = tt; quit = refl; frame = refl }
 
 of_second : (meaning : Option Line) → IsOfSecond (where_of_second meaning)
@@ -59,13 +54,6 @@ pub second_more : (result : Result Bool SinkFault) (rest : List ℕ) (meaning : 
     → IfOk result (λ more. more ≡ not (is_quit meaning)) → IfOk result (λ more. more ≡ true)
 second_more (Ok more) rest meaning same is = is ∙ ap (λ (m : Option Line). not (is_quit m)) same ∙ ap not (of_second (line_of rest)).quit
 second_more (Err fault) rest meaning same is = tt
-
--- and none of its lines ends the script
-pub second_quits : (result : Result Bool SinkFault) (given : Option (List ℕ)) (rest : List ℕ) → IfOk result (λ more. more ≡ true)
-    → ((text : List ℕ) → IsLine given text → IsRestFor text rest)
-    → IfOk result (λ more. (text : List ℕ) → IsLine given text → more ≡ not (ends_script text))
-second_quits (Ok more) given rest is rests = λ text line. is ∙ sym (ap not (goes_on text (rests text line).second))
-second_quits (Err fault) given rest is rests = tt
 
 -- what a line means that was taken up
 pub meant_by : (given : Option (List ℕ)) (turn : LineState) (text : List ℕ) → turn ≡ unattempted (meaning_of given) → IsLine given text

@@ -1,5 +1,5 @@
 -- The cues of each list: what is left of a show's once those of the other are taken out.
-use Rattle.lx_lists.proofs.Imports.{◌≡◌, ℕ, zero, suc, ◌-◌, ◌<◌, ◌≤◌, Bool, true, false, cond, List, [], ◌∷◌, length, Some, None}
+use Rattle.lx_lists.proofs.Imports.{◌≡◌, ℕ, zero, suc, ◌-◌, ◌<◌, ◌≤◌, Bool, true, false, cond, List, [], ◌∷◌, length, Some}
 use Rattle.lx_lists.proofs.Imports.{refl, ◌∙◌, sym, ap, arith, Option, IsTrue, filter, not, nat_lt, nat_le, ◌==◌, is_some, slice_get, AllByRecursion}
 use Rattle.lx_lists.proofs.Imports.{SECOND_LIST, IsStrictlySorted, entry_at, has_entry, taken_out, Cue, Show, first_show, second_show}
 use Rattle.lx_spec.specs.EditedShow.{without_cue}
@@ -51,18 +51,6 @@ stands_there {A} key (y ∷ ys) zero x is =
     let here : (key y == key x) ≡ true = eq_true (key y) (key x) (ap key same) in
     rw here refl
 stands_there key (y ∷ ys) (suc k) x is = found_step y (key y == key x) _ (stands_there key ys k x is)
-
-none_there : (cues : List Cue) → slice_get cues 0 ≡ None → cues ≡ []
-none_there [] is = refl
-none_there (cue ∷ cues) is = absurd cc
-
-none_last : (cues : List Cue) → slice_get cues (length cues - 1) ≡ None → cues ≡ []
-none_last [] is = refl
-none_last (cue ∷ []) is = absurd cc
-none_last (cue ∷ next ∷ cues) is =
-    let at : length (cue ∷ next ∷ cues) - 1 ≡ suc (length (next ∷ cues) - 1) = omega arith in
-    let none : next ∷ cues ≡ [] = none_last (next ∷ cues) (sym (ap (slice_get (cue ∷ next ∷ cues)) at) ∙ is) in
-    absurd cc
 
 all_from : (cues : List Cue) (cue : Cue) → IsStrictlySorted (λ x. x.number) cues → slice_get cues 0 ≡ Some cue → SECOND_LIST ≤ cue.number
     → AllByRecursion (λ x. nat_le SECOND_LIST x.number ≡ true) cues

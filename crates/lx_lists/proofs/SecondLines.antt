@@ -1,9 +1,8 @@
 -- Lines for the second list: such a line means nothing else, and none ends the script.
-use Rattle.lx_lists.proofs.Imports.{◌≡◌, ℕ, ◌<◌, true, false, None, List, [], ◌∷◌, refl, sym, ap, subst, inl, inr, arith, nat_lt, length}
+use Rattle.lx_lists.proofs.Imports.{◌≡◌, ℕ, true, false, None, List, [], ◌∷◌, refl, sym, ap, subst, inl, inr, nat_lt, length}
 use Rattle.lx_lists.proofs.Imports.{codes, LINE_BYTES, line_of, meaning, ends_script, is_quit, is_for_second, leads_with_two}
 use Rattle.std.specs.Str.{bytes_eq}
 use Rattle.std.proofs.lemmas.Bool.{cases_Bool}
-use Rattle.std.proofs.lemmas.Bool.Decides.{nat_tests}
 use Rattle.std.proofs.lemmas.Slice.Eq.{bytes_eq-Decides}
 use Rattle.lx_spec.specs.Text.{tokens}
 use Rattle.lx_spec.specs.Phrase.{Tokens}
@@ -31,6 +30,3 @@ quit_is_first line quit = elim (cases_Bool (is_for_second line)) [
   | inl is ↦ let other : ends_script line ≡ false = goes_on line is in cc
   | inr other ↦ other
 ]
-
-pub too_long : (text : List ℕ) → LINE_BYTES < length text → is_for_second text ≡ false
-too_long text long = let e : nat_lt LINE_BYTES (length text) ≡ true = grind (arith, nat_tests) in rw e refl

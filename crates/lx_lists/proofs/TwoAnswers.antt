@@ -1,16 +1,16 @@
 -- A line that was done on one of the lists was answered for both.
-use Rattle.lx_lists.proofs.Imports.{◌≡◌, ℕ, Bool, true, false, Option, Some, None, Result, Ok, Err, List, [], refl, sym, ap, ◌∙◌, subst, OnOk}
+use Rattle.lx_lists.proofs.Imports.{◌≡◌, ℕ, Bool, true, false, Option, Some, None, Result, List, [], refl, sym, ap, ◌∙◌, subst}
 use Rattle.lx_lists.proofs.Imports.{filter, fold, if◌then◌else◌, SinkFault, Line, after_command, frame_text, line_of, Session, is_quit, with_text}
-use Rattle.lx_lists.proofs.Imports.{DeskState, Attempt, begun, tried, after_attempts, TwoDesks, is_tick, is_for_second, second_meaning, second_answer}
+use Rattle.lx_lists.proofs.Imports.{DeskState, begun, tried, after_attempts, TwoDesks, is_tick, is_for_second, second_meaning, second_answer}
 use Rattle.lx_lists.proofs.Imports.{first_answer, two_answer, frame_of_two, TwoMayFail, two_answering, frame_of, ExtendsText, IsLawful, OneAnswer, TurnAnswer}
-use Rattle.lx_lists.proofs.Imports.{allowed_some, with_reply_is, counted_so, TwoKept, TwoStand, TicksReach, Stays}
+use Rattle.lx_lists.proofs.Imports.{line_answered, with_reply_is, TwoKept, TwoStand, TicksReach, Stays}
 use Rattle.lx_io.specs.Puts.{Puts}
 use Rattle.lx_io.specs.Told.{ToldBySink}
 use Rattle.lx_spec.specs.declared.Line.TheVariants as lines
 use Rattle.lx_session.specs.declared.tally.Tally.{Tally}
-use Rattle.lx_session.specs.LineReply.{reply_to, counts_after, counts_in}
+use Rattle.lx_session.specs.LineReply.{reply_to, counts_in}
 use Rattle.lx_session.specs.Spared.{spared}
-use Rattle.lx_session.proofs.Stood.{spares}
+use Rattle.lx_session.proofs.Replies.{on_ok}
 use Rattle.lx_lists.proofs.SecondLines.{quit_is_first}
 
 -- the state after the attempts of a line of the first list that asks for no frame, and of one of the second
@@ -20,84 +20,33 @@ first_after s t = record { first = t.desk; second = fold after_command s.second 
 abbrev second_after : TwoDesks → DeskState → TwoDesks
 second_after s t = record s { second = t.desk }
 
-abbrev on_first : Session TwoDesks → Option Line → Attempt → Session TwoDesks
-on_first s meaning t = after_attempts s meaning t (first_after s.state t.state)
-
-abbrev on_second : Session TwoDesks → Option Line → Attempt → Session TwoDesks
-on_second s meaning t = after_attempts s meaning t (second_after s.state t.state)
-
 first_is : (failed : Option ℕ) (s : Session TwoDesks) (meaning : Option Line) → frame_of meaning ≡ None
-    → first_answer failed s meaning ≡ on_first s meaning (tried failed (begun s.state.first) meaning)
-first_is failed s None none = refl
-first_is failed s (Some (lines.Command c)) none = refl
-first_is failed s (Some (lines.Ticks k)) none = refl
+    → first_answer failed s meaning
+    ≡ (let t = tried failed (begun s.state.first) meaning in after_attempts s meaning t (first_after s.state t.state))
 first_is failed s (Some (lines.Frame u)) none = cc
-first_is failed s (Some lines.Save) none = refl
-first_is failed s (Some (lines.SheetOf n)) none = refl
-first_is failed s (Some lines.Quit) none = refl
-first_is failed s (Some lines.Blank) none = refl
+first_is failed s other none = refl
 
-for_first : (failed : Option ℕ) (s : Session TwoDesks) (line : List ℕ) → is_for_second line ≡ false
-    → two_answer failed s line ≡ first_answer failed s (line_of line)
-for_first failed s line is =
-    ap (λ (b : Bool). if b then second_answer failed s (second_meaning line) else first_answer failed s (line_of line)) is
+module _ (failed : Option ℕ) (s : Session TwoDesks) (line : List ℕ) where
+  for_first : is_for_second line ≡ false → two_answer failed s line ≡ first_answer failed s (line_of line)
+  for_first is = ap (λ (b : Bool). if b then second_answer failed s (second_meaning line) else first_answer failed s (line_of line)) is
 
-for_second : (failed : Option ℕ) (s : Session TwoDesks) (line : List ℕ) → is_for_second line ≡ true
-    → two_answer failed s line ≡ second_answer failed s (second_meaning line)
-for_second failed s line is =
-    ap (λ (b : Bool). if b then second_answer failed s (second_meaning line) else first_answer failed s (line_of line)) is
+  for_second : is_for_second line ≡ true → two_answer failed s line ≡ second_answer failed s (second_meaning line)
+  for_second is = ap (λ (b : Bool). if b then second_answer failed s (second_meaning line) else first_answer failed s (line_of line)) is
 
-module _ {K T : Type 0} (told : ToldBySink K) (sink sink' : K) (result : Result T SinkFault)
-    (s : Session TwoDesks) (line : List ℕ) (t : TwoKept) (tally : Tally) (ample : Bool) where
+module _ {K T : Type 0} {told : ToldBySink K} {sink sink' : K} {result : Result T SinkFault}
+    {s : Session TwoDesks} {line : List ℕ} {t : TwoKept} {tally : Tally} (ample : Bool) where
   pub answered_second : is_for_second line ≡ true
       → TurnAnswer (ample ≡ true) true (Stays s.state.first t.first) told sink sink' result s.counts (begun s.state.second) (second_meaning line) t.second tally
       → OneAnswer (spared ample two_answering) told sink sink' result s line (λ (state : TwoDesks). TwoStand state t) tally
-  answered_second is a =
-      let now : Attempt = record { state = a.now; refusal = a.refusal } in
-      let next = on_second s (second_meaning line) now in
-      let r = with_reply_is s (second_meaning line) now (second_after s.state a.now) in
-      record {
-        next = next;
-        failed = a.failed;
-        goes_on = record {
-          is = for_second a.failed s line is ∙ ap (on_second s (second_meaning line)) a.is;
-          allowed = spares ample a.failed (TwoMayFail s.state line (is_for_second line)) a.none
-              (allowed_some a.failed (TwoMayFail s.state line (is_for_second line))
-              (λ failed. subst (TwoMayFail s.state line) (sym is) (a.at_edit failed refl)));
-        };
-        stands = subst (λ (x : TwoDesks). TwoStand x t) (sym r.state) (record { first = a.listened; second = a.stands });
-        reply = reply_to a.now.desk (second_meaning line) a.refusal;
-        text = r.text;
-        puts = a.puts;
-        counts = counted_so result next.counts (counts_after a.now.desk s.counts (second_meaning line) a.refusal) (counts_in tally) r.counts
-            a.counts;
-      }
+  answered_second is a = line_answered two_answering ample (λ (state : TwoDesks). TwoStand state t) (second_after s.state) a
+      (for_second a.failed s line is) (λ edit. subst (TwoMayFail s.state line) (sym is) edit) (record { first = a.listened; second = a.stands })
 
   pub answered_first : is_for_second line ≡ false → frame_of (line_of line) ≡ None
       → TurnAnswer (ample ≡ true) true (TicksReach s.state.second t.second) told sink sink' result s.counts (begun s.state.first) (line_of line) t.first tally
       → OneAnswer (spared ample two_answering) told sink sink' result s line (λ (state : TwoDesks). TwoStand state t) tally
-  answered_first is none a =
-      let now : Attempt = record { state = a.now; refusal = a.refusal } in
-      let next = on_first s (line_of line) now in
-      let r = with_reply_is s (line_of line) now (first_after s.state a.now) in
-      record {
-        next = next;
-        failed = a.failed;
-        goes_on = record {
-          is = for_first a.failed s line is ∙ first_is a.failed s (line_of line) none ∙ ap (on_first s (line_of line)) a.is;
-          allowed = spares ample a.failed (TwoMayFail s.state line (is_for_second line)) a.none
-              (allowed_some a.failed (TwoMayFail s.state line (is_for_second line))
-              (λ failed. subst (TwoMayFail s.state line) (sym is) (a.at_edit failed refl)));
-        };
-        stands = subst (λ (x : TwoDesks). TwoStand x t) (sym r.state) (record {
-          first = a.stands;
-          second = subst (TicksReach s.state.second t.second) (sym a.accepted) a.listened;
-        });
-        reply = reply_to a.now.desk (line_of line) a.refusal;
-        text = r.text;
-        puts = a.puts;
-        counts = counted_so result next.counts (counts_after a.now.desk s.counts (line_of line) a.refusal) (counts_in tally) r.counts a.counts;
-      }
+  answered_first is none a = line_answered two_answering ample (λ (state : TwoDesks). TwoStand state t) (first_after s.state) a
+      (for_first a.failed s line is ∙ first_is a.failed s (line_of line) none) (λ edit. subst (TwoMayFail s.state line) (sym is) edit)
+      (record { first = a.stands; second = subst (TicksReach s.state.second t.second) (sym a.accepted) a.listened })
 
   -- a frame of both
   pub answered_frame : (u : ℕ) → is_for_second line ≡ false → line_of line ≡ Some (lines.Frame u) → TwoStand s.state t
@@ -111,11 +60,8 @@ module _ {K T : Type 0} (told : ToldBySink K) (sink sink' : K) (result : Result 
     reply = frame_text [] s.state.first.playback.moment u (frame_of_two s.state u);
     text = refl;
     puts = puts;
-    counts = always result counts;
-  } where
-    always : {T' : Type 0} {P : Type 0} (r : Result T' SinkFault) → P → OnOk r P
-    always (Ok x) p = p
-    always (Err e) p = tt
+    counts = on_ok result _ counts;
+  }
 
 extends_plain : (failed : Option ℕ) (s : Session TwoDesks) (meaning : Option Line) → frame_of meaning ≡ None
     → ExtendsText s (first_answer failed s meaning)
@@ -125,17 +71,11 @@ extends_plain failed s meaning none =
     (record { more = reply_to t.state.desk meaning t.refusal; text = (with_reply_is s meaning t (first_after s.state t.state)).text })
 
 extends_first : (failed : Option ℕ) (s : Session TwoDesks) (meaning : Option Line) → ExtendsText s (first_answer failed s meaning)
-extends_first failed s None = extends_plain failed s None refl
-extends_first failed s (Some (lines.Command c)) = extends_plain failed s (Some (lines.Command c)) refl
-extends_first failed s (Some (lines.Ticks k)) = extends_plain failed s (Some (lines.Ticks k)) refl
 extends_first failed s (Some (lines.Frame u)) = record {
   more = frame_text [] s.state.first.playback.moment u (frame_of_two s.state u);
   text = refl;
 }
-extends_first failed s (Some lines.Save) = extends_plain failed s (Some lines.Save) refl
-extends_first failed s (Some (lines.SheetOf n)) = extends_plain failed s (Some (lines.SheetOf n)) refl
-extends_first failed s (Some lines.Quit) = extends_plain failed s (Some lines.Quit) refl
-extends_first failed s (Some lines.Blank) = extends_plain failed s (Some lines.Blank) refl
+extends_first failed s other = extends_plain failed s other refl
 
 extends_by : (failed : Option ℕ) (s : Session TwoDesks) (line : List ℕ) (b : Bool)
     → ExtendsText s (if b then second_answer failed s (second_meaning line) else first_answer failed s (line_of line))
@@ -152,11 +92,5 @@ two_lawful = record {
   ends = λ failed s line quit. for_first failed s line (quit_is_first line quit) ∙ quits failed s (line_of line) quit;
 } where
   quits : (failed : Option ℕ) (s : Session TwoDesks) (meaning : Option Line) → is_quit meaning ≡ true → first_answer failed s meaning ≡ s
-  quits failed s None quit = cc
-  quits failed s (Some (lines.Command c)) quit = cc
-  quits failed s (Some (lines.Ticks k)) quit = cc
-  quits failed s (Some (lines.Frame u)) quit = cc
-  quits failed s (Some lines.Save) quit = cc
-  quits failed s (Some (lines.SheetOf n)) quit = cc
   quits failed s (Some lines.Quit) quit = refl
-  quits failed s (Some lines.Blank) quit = cc
+  quits failed s other quit = cc

@@ -1,5 +1,5 @@
 -- The lines of a session in order, and the attempts of them that failed.
-use Rattle.lx_session.proofs.Imports.{◌≡◌, ℕ, suc, Option, None, List, [], ◌∷◌, ◌++◌, length, refl, sym, ap, ◌∙◌, arith, append_assoc}
+use Rattle.lx_session.proofs.Imports.{◌≡◌, ℕ, Option, None, List, [], ◌∷◌, ◌++◌, length, refl, sym, ap, ◌∙◌, arith, append_assoc}
 use Rattle.lx_session.proofs.Imports.{append-nil, Session, Answering, after_each, AreAllowed, ExtendsText, IsLawful}
 
 -- each only adds to the text

@@ -1,8 +1,8 @@
 -- A line on a console beside a listener is a line of its session.
-use Rattle.lx_session.proofs.Imports.{◌≡◌, ◌<◌, Bool, true, false, cond, Option, Some, None, IfSome, Result, List, ◌++◌, length, ℕ, ◌∙◌}
+use Rattle.lx_session.proofs.Imports.{◌≡◌, Bool, true, false, cond, Option, Some, None, IfSome, Result, List, ◌++◌, length, ℕ, ◌∙◌}
 use Rattle.lx_session.proofs.Imports.{ap, sym, refl, subst, arith, nat_lt, nat_tests, fold-append, LINE_BYTES, SinkFault, Command, Line, Kept, Desk}
 use Rattle.lx_session.proofs.Imports.{after_command, tokens, Session, is_quit, DeskState, tried, after_meaning, MayFailAt, desk_answering, Tally}
-use Rattle.lx_session.proofs.Imports.{after_commands, reply_to, meaning_of, IsLine, ExtendsText, IsLawful, OneAnswer, SparedAnswer, Beginning, HasDone}
+use Rattle.lx_session.proofs.Imports.{after_commands, reply_to, meaning_of, IsLine, ExtendsText, IsLawful, OneAnswer, SparedAnswer, Beginning}
 use Rattle.lx_session.proofs.Imports.{HasHeard, ToldBySink, spared}
 use Rattle.lx_spec.specs.declared.Line.TheVariants as lines
 use Rattle.lx_spec.specs.Script.{line_of, meaning}
@@ -10,29 +10,16 @@ use Rattle.lx_session.proofs.RepliedLines.{finished}
 use Rattle.lx_session.proofs.Stood.{spares}
 
 -- a line that is too long has no meaning
-too_long : (line : List ℕ) → LINE_BYTES < length line → None ≡ line_of line
-too_long line long =
-    let e : nat_lt LINE_BYTES (length line) ≡ true = grind (arith, nat_tests) in
-    sym (ap (λ b. cond b None (meaning line (tokens line))) e)
-
 pub meaning_is : (given : Option (List ℕ)) (text : List ℕ) → IsLine given text → meaning_of given ≡ line_of text
 meaning_is (Some line) text is = ap line_of is
-meaning_is None text long = too_long text long
+meaning_is None text long =
+    let e : nat_lt LINE_BYTES (length text) ≡ true = grind (arith, nat_tests) in
+    sym (ap (λ b. cond b None (meaning text (tokens text))) e)
 
 -- quit attempts nothing
 pub quit_is : (meaning : Option Line) → is_quit meaning ≡ true → meaning ≡ Some lines.Quit
-quit_is None q = cc
-quit_is (Some (lines.Command c)) q = cc
-quit_is (Some (lines.Ticks k)) q = cc
-quit_is (Some (lines.Frame u)) q = cc
-quit_is (Some lines.Save) q = cc
-quit_is (Some (lines.SheetOf n)) q = cc
 quit_is (Some lines.Quit) q = refl
-quit_is (Some lines.Blank) q = cc
-
-pub quit_same : (failed : Option ℕ) (s : Session DeskState) (meaning : Option Line) → is_quit meaning ≡ true
-    → after_meaning failed s meaning ≡ s
-quit_same failed s meaning q = ap (after_meaning failed s) (quit_is meaning q)
+quit_is other q = cc
 
 -- a line adds its reply to the text
 pub extends_line : (failed : Option ℕ) (s : Session DeskState) (meaning : Option Line) → ExtendsText s (after_meaning failed s meaning)
@@ -46,7 +33,7 @@ extends_line failed s meaning =
 pub desk_lawful : (all : Bool) → IsLawful (desk_answering all)
 desk_lawful all = record {
   extends = λ failed s line. extends_line failed s (line_of line);
-  ends = λ failed s line q. quit_same failed s (line_of line) q;
+  ends = λ failed s line q. ap (after_meaning failed s) (quit_is (line_of line) q);
 }
 
 -- the desk after all commands that were accepted, and after more
@@ -64,15 +51,14 @@ may_fail true true so_far d meaning (Some k) may = may
 may_fail false true so_far d meaning (Some k) may = let no : false ≡ true = so_far refl in absurd cc
 
 -- a line that was answered on the console was answered for the state
-pub answered_heard : {K T L : Type 0} (Ample : Type 0) (all_here all ample : Bool) → (all ≡ true → all_here ≡ true)
-    → (ample ≡ true → Ample) → (heard : L → L → List Command → Type 0) (since : Beginning L) (first now : L)
-    (told : ToldBySink K) (sink sink' : K) (result : Result T SinkFault) (s : Session DeskState) (text : List ℕ)
-    (before console : Kept) (tally : Tally)
+pub answered_heard : {K T L Ample : Type 0} {all_here all ample : Bool} {told : ToldBySink K} {sink sink' : K} {result : Result T SinkFault}
+    {s : Session DeskState} {text : List ℕ} {before console : Kept} {tally : Tally} (heard : L → L → List Command → Type 0)
+    (since : Beginning L) (first now : L) → (all ≡ true → all_here ≡ true) → (ample ≡ true → Ample)
     → ((last : L) (done more : List Command) → heard last first done → heard first now more → heard last now (done ++ more))
     → HasHeard heard since s.state first before
     → SparedAnswer Ample all_here (heard first now) told sink sink' result s (line_of text) console tally
     → OneAnswer (spared ample (desk_answering all)) told sink sink' result s text (λ state. HasHeard heard since state now console) tally
-answered_heard Ample all_here all ample so_far is_ample heard since first now told sink sink' result s text before console tally both h spared_a =
+answered_heard {all_here} {all} {ample} {s} {text} heard since first now so_far is_ample both h spared_a =
     let a = spared_a.answer in record {
       next = a.next;
       failed = a.failed;

@@ -1,6 +1,6 @@
 -- What the proofs of this crate import from its specs and from other crates. It declares nothing.
 pub use Rattle.std.proofs.Common.{[], ℕ, ◌++◌, ◌+◌, ◌-◌, ◌<◌, ◌==◌, ◌∙◌, ◌∷◌, ◌≡◌, ◌≤◌, ◌⊎◌, ap, append-nil, ◌≢◌}
-pub use Rattle.std.proofs.Common.{append_assoc, arith, Bool, cond, drop, eqb, Err, false, IfOk, IfSome, if◌then◌else◌, inl, inr, is_none, is_some, IsErr}
+pub use Rattle.std.proofs.Common.{append_assoc, arith, Bool, cond, drop, eqb, Err, false, IfErr, IfOk, IfSome, if◌then◌else◌, inl, inr, is_none, is_some, IsErr}
 pub use Rattle.std.proofs.Common.{IsOk, IsOkAnd, IsTrue, length, length-append, List, map, nat_lt, None, not, Ok, OnErr, OnOk, Option, option_copied}
 pub use Rattle.std.proofs.Common.{option_map, refl, Result, rules, Some, subst, suc, sym, take, take-append-drop, take_all, true, zero}
 pub use Rattle.lx_base.specs.declared.TheConstants.{INPUT_BYTES, LINE_BYTES, UNIVERSES}
@@ -20,7 +20,7 @@ pub use Rattle.lx_session.specs.Attempts.{AcceptedStep, after_commands, Attempte
 pub use Rattle.lx_session.specs.Known.{AppendsAtLeast, Known}
 pub use Rattle.lx_session.specs.LineAnswer.{LineAnswer, SparedAnswer}
 pub use Rattle.lx_session.specs.LineOutcome.{AnsweredLine, DoneLine, FromSession, HalfAnsweredLine, LineOutcome, PassedLine, QuitLine, ReplyOutcome}
-pub use Rattle.lx_session.specs.LineOutcome.{ReplyPrefix, ScriptEnd, SinkStop, UnreadLine, Untouched}
+pub use Rattle.lx_session.specs.LineOutcome.{ReplyPrefix, ScriptEnd, SinkStop, UnreadLine, Untouched, WholeReply}
 pub use Rattle.lx_session.specs.LineProgress.{CommandHasFailed, HasPassed, LineProgress, resumed}
 pub use Rattle.lx_session.specs.LineReply.{counted, counts_after, counts_in, IsUpTo, reply_for, reply_to, stateless}
 pub use Rattle.lx_session.specs.LineState.{frame_of, LineState, meaning_of, next_of, unattempted}
@@ -53,6 +53,7 @@ pub use Rattle.std.proofs.KnownBytes.{Appends-kept, Appends-nil, Appends-trans, 
 pub use Rattle.std.proofs.lemmas.Bool.Decides.{nat_tests}
 pub use Rattle.std.proofs.lemmas.List.{length-map, map-append}
 pub use Rattle.std.proofs.lemmas.List.Sums.{fold-append}
+pub use Rattle.std.proofs.lemmas.Result.{IfErr-at_err, IfOk-at_ok}
 pub use Rattle.std.specs.Io.KnownBytes.{Appends, IsAtEnd, Keeps}
 pub use Rattle.std.specs.List.{AllByRecursion, before_first, position_or_len}
 pub use Rattle.std.specs.Result.{IsErrAnd, result_err, result_unwrap_or}

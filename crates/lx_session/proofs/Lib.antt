@@ -12,6 +12,5 @@ pub mod ReplyOutcomes
 pub mod LineOutcomes
 pub mod SoFar
 pub mod ScriptEnds
-pub mod Ends
 pub mod Rows
 mod Imports

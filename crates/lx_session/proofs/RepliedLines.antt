@@ -1,7 +1,7 @@
 -- What a line's reply makes of a session.
-use Rattle.lx_session.proofs.Imports.{◌≡◌, ℕ, zero, suc, Bool, true, false, cond, ◌==◌, Option, Some, None, List, [], ◌∷◌, ◌++◌, refl}
-use Rattle.lx_session.proofs.Imports.{sym, ap, ◌∙◌, arith, is_some, if◌then◌else◌, nat_tests, Command, Line, Refusal, AbsentCue, cue_of, Desk}
-use Rattle.lx_session.proofs.Imports.{row_text, row_of, refused_text, Session, refused_reply, with_text, DeskState, Attempt, command_of, attempts_for}
+use Rattle.lx_session.proofs.Imports.{◌≡◌, ℕ, zero, suc, Bool, true, false, cond, ◌==◌, Option, Some, None, ◌++◌, refl}
+use Rattle.lx_session.proofs.Imports.{sym, ap, append-nil, ◌∙◌, arith, is_some, if◌then◌else◌, nat_tests, Command, Line, Refusal, AbsentCue, cue_of, Desk}
+use Rattle.lx_session.proofs.Imports.{row_text, row_of, refused_text, Session, refused_reply, with_text, DeskState, command_of, attempts_for}
 use Rattle.lx_session.proofs.Imports.{with_reply, LineState, next_of, resumed, stateless, reply_to, counts_after}
 use Rattle.lx_spec.specs.declared.Line.TheVariants as lines
 
@@ -29,18 +29,8 @@ pub record IsReplied {S : Type 0} (s : Session S) (meaning : Option Line) (d : D
   pub text : next.text ≡ s.text ++ reply_to d meaning refusal
   pub counts : next.counts ≡ counts_after d s.counts meaning refusal
 
-replied_command : {S : Type 0} (s : Session S) (d : Desk) (c : Command) (refusal : Option Refusal)
-    → IsReplied s (Some (lines.Command c)) d refusal (with_reply s (Some (lines.Command c)) d refusal)
-replied_command s d c None = record { state = refl; text = refl; counts = refl }
-replied_command s d c (Some r) = record { state = refl; text = refl; counts = refl }
-
-replied_ticks : {S : Type 0} (s : Session S) (d : Desk) (k : ℕ) (refusal : Option Refusal)
-    → IsReplied s (Some (lines.Ticks k)) d refusal (with_reply s (Some (lines.Ticks k)) d refusal)
-replied_ticks s d k None = record { state = refl; text = refl; counts = refl }
-replied_ticks s d k (Some r) = record { state = refl; text = refl; counts = refl }
-
 -- a row line, or that there is no such cue
-abbrev row_or_not : {S : Type 0} → Session S → Desk → ℕ → Bool → Session S
+abbrev pub row_or_not : {S : Type 0} → Session S → Desk → ℕ → Bool → Session S
 row_or_not s d n b = if b then with_text s (row_text n (row_of d.show n)) else refused_reply s (refused_text (AbsentCue n))
 
 sheet : {S : Type 0} (s : Session S) (d : Desk) (n : ℕ) (refusal : Option Refusal) (b : Bool) → is_some (cue_of d.show n) ≡ b
@@ -56,17 +46,10 @@ sheet s d n refusal false is = record {
   counts = ap (λ b. (row_or_not (stateless s.counts) d n b).counts) (sym is);
 }
 
-nothing_more : (xs : List ℕ) → xs ≡ xs ++ []
-nothing_more [] = refl
-nothing_more (x ∷ xs) = ap (λ v. x ∷ v) (nothing_more xs)
-
 pub finished : {S : Type 0} (s : Session S) (meaning : Option Line) (d : Desk) (refusal : Option Refusal)
     → IsReplied s meaning d refusal (with_reply s meaning d refusal)
-finished s None d refusal = record { state = refl; text = refl; counts = refl }
-finished s (Some (lines.Command c)) d refusal = replied_command s d c refusal
-finished s (Some (lines.Ticks k)) d refusal = replied_ticks s d k refusal
-finished s (Some (lines.Frame u)) d refusal = record { state = refl; text = refl; counts = refl }
-finished s (Some lines.Save) d refusal = record { state = refl; text = refl; counts = refl }
 finished s (Some (lines.SheetOf n)) d refusal = sheet s d n refusal (is_some (cue_of d.show n)) refl
-finished s (Some lines.Quit) d refusal = record { state = refl; text = nothing_more s.text; counts = refl }
-finished s (Some lines.Blank) d refusal = record { state = refl; text = nothing_more s.text; counts = refl }
+finished s (Some lines.Quit) d refusal = record { state = refl; text = sym (append-nil s.text); counts = refl }
+finished s (Some lines.Blank) d refusal = record { state = refl; text = sym (append-nil s.text); counts = refl }
+finished s other d None = record { state = refl; text = refl; counts = refl }
+finished s other d (Some r) = record { state = refl; text = refl; counts = refl }

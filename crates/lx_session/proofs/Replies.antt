@@ -1,21 +1,12 @@
 -- The replies of lines, as the code gives them.
-use Rattle.lx_session.proofs.Imports.{◌≡◌, ℕ, Bool, true, Option, Some, None, Result, Ok, Err, OnOk, [], sym, ap, ◌∙◌, IfOk, not, SinkFault, Line}
+use Rattle.lx_session.proofs.Imports.{◌≡◌, ℕ, Bool, true, Option, Some, Result, Ok, Err, OnOk, [], sym, ap, ◌∙◌, IfOk, not, SinkFault, Line}
 use Rattle.lx_session.proofs.Imports.{Refusal, Desk, frame, frame_text, Counts, is_quit, show_text, reply_to, counts_after, frame_of}
 use Rattle.lx_spec.specs.declared.Line.TheVariants as lines
 
 -- a line that asks for a frame
 pub frame_is : (meaning : Option Line) (u : ℕ) → frame_of meaning ≡ Some u → meaning ≡ Some (lines.Frame u)
-frame_is None u is = cc
-frame_is (Some (lines.Command c)) u is = cc
-frame_is (Some (lines.Ticks k)) u is = cc
 frame_is (Some (lines.Frame v)) u is = cc
-frame_is (Some lines.Save) u is = cc
-frame_is (Some (lines.SheetOf n)) u is = cc
-frame_is (Some lines.Quit) u is = cc
-frame_is (Some lines.Blank) u is = cc
-
-pub no_frame : (meaning : Option Line) (u : ℕ) → meaning ≡ Some (lines.Frame u) → frame_of meaning ≡ None → ⊥
-no_frame meaning u is none = let both : Some u ≡ None = sym (ap frame_of is) ∙ none in cc
+frame_is other u is = cc
 
 pub frame_goes_on : (meaning : Option Line) (u : ℕ) (r : Result Bool SinkFault) → meaning ≡ Some (lines.Frame u)
     → IfOk r (λ more. more ≡ true) → IfOk r (λ more. more ≡ not (is_quit meaning))
@@ -33,10 +24,6 @@ frame_counts d meaning u r counts is = ap (λ v. counts_after d counts v r) (sym
 pub save_reply : (d : Desk) (meaning : Option Line) (r : Option Refusal) → meaning ≡ Some lines.Save
     → show_text d.show ≡ reply_to d meaning r
 save_reply d meaning r is = ap (λ v. reply_to d v r) (sym is)
-
-pub save_counts : (d : Desk) (meaning : Option Line) (r : Option Refusal) (counts : Counts) → meaning ≡ Some lines.Save
-    → counts ≡ counts_after d counts meaning r
-save_counts d meaning r counts is = ap (λ v. counts_after d counts v r) (sym is)
 
 pub on_ok : {T E : Type 0} (r : Result T E) (P : Type 0) → P → OnOk r P
 on_ok (Ok x) P p = p

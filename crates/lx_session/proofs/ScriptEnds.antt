@@ -1,7 +1,7 @@
 -- How a session ends.
-use Rattle.lx_session.proofs.Imports.{◌≡◌, ◌⊎◌, inl, inr, ℕ, ◌+◌, ◌<◌, true, Result, Ok, Err, IsErr, Option, Some, None, IfSome, List, []}
+use Rattle.lx_session.proofs.Imports.{◌≡◌, ◌⊎◌, inl, inr, ℕ, true, Result, Ok, Err, Option, Some, None, IfSome, List, []}
 use Rattle.lx_session.proofs.Imports.{◌∷◌, ◌++◌, map, length, take, drop, take-append-drop, take_all, sym, ap, ◌∙◌, subst, append-nil}
-use Rattle.lx_session.proofs.Imports.{append_assoc, length-append, arith, position_or_len, before_first, IsErrAnd, Appends, IsAtEnd, Appends-trans}
+use Rattle.lx_session.proofs.Imports.{append_assoc, length-append, arith, position_or_len, before_first, Appends, IsAtEnd, Appends-trans}
 use Rattle.lx_session.proofs.Imports.{Appends-kept, map-append, length-map, AppendsFront, AppendsFront-is, AppendsFront-from, Lines, unread, NotTaken}
 use Rattle.lx_session.proofs.Imports.{LinesBetween, handed_then, all_texts, without_cr, lines_of, first_lines, Session, Answering, begin_at, after_each}
 use Rattle.lx_session.proofs.Imports.{AreAllowed, ends_script, answered_lines, whole_session, session_after, Allows, Tally, Known, QuitLine, HalfAnsweredLine}
@@ -15,13 +15,10 @@ use Rattle.lx_session.proofs.SoFar.{GoOn, Done, SoFar, Passed, before_last, done
 use Rattle.lx_session.proofs.SoFar.{begins, begins_more, ends_after, ends_here, too_long}
 
 -- what the lines before the end are
-take_along : (xs more : List (List ℕ)) (n : ℕ) → take (length xs + n) (xs ++ more) ≡ xs ++ take n more
-take_along xs more n = take-append-add xs more n
-
 before_end : (xs : List (List ℕ)) (more : List (List ℕ)) → GoOn xs
     → before_first ends_script (xs ++ more) ≡ xs ++ before_first ends_script more
 before_end xs more all =
-    ap (λ n. take n (xs ++ more)) (ends_after xs more all) ∙ take_along xs more (position_or_len ends_script more)
+    ap (λ n. take n (xs ++ more)) (ends_after xs more all) ∙ take-append-add xs more (position_or_len ends_script more)
 
 before_all : (xs : List (List ℕ)) → GoOn xs → before_first ends_script xs ≡ xs
 before_all xs all = ap (before_first ends_script) (sym (append-nil xs)) ∙ before_end xs [] all ∙ append-nil xs
@@ -30,66 +27,9 @@ before_quit : (xs : List (List ℕ)) (l : List ℕ) (more : List (List ℕ)) →
     → before_first ends_script (xs ++ l ∷ more) ≡ xs
 before_quit xs l more all e = before_end xs (l ∷ more) all ∙ ap (λ n. xs ++ take n (l ∷ more)) (ends_here l more e) ∙ append-nil xs
 
--- The whole script was answered.
-answers_all : (by : Answering (List ℕ)) (Stands : by.State → Type 0) (state : by.State) (script lines : List (List ℕ))
-    (failures : List (Option ℕ)) (now : Session by.State) (h h' : Known) (tally : Tally)
-    → answered_lines script ≡ lines → Done by state lines failures now → Appends h h' now.text → Stands now.state
-    → now.counts ≡ counts_in tally → AnsweredWhole by Stands state script h h' tally
-answers_all by Stands state script lines failures now h h' tally is done appended stands counts =
-    let same : whole_session by state script failures ≡ now = ap (after_each by failures (begin_at state)) is ∙ done.is in
-    record {
-      failures = failures;
-      allows = subst (λ ls. AreAllowed by failures (begin_at state) ls) (sym is) done.allowed;
-      text = subst (λ (s : Session by.State). Appends h h' s.text) (sym same) appended;
-      counts = sym (ap (λ s. s.counts) same ∙ counts);
-      stands = subst (λ (s : Session by.State). Stands s.state) (sym same) stands;
-    }
-
--- The script has ended: the whole text was written.
-pub so_far_ends : {S : Type 0} (by : Answering (List ℕ)) (Stood Stands : by.State → Type 0)
-    (told : ToldBySource S) (a b c : Lines S) (state : by.State) (tally tally' : Tally) (h h' h'' : Known)
-    → (s : SoFar by Stood told a b state tally h h') → ScriptEnd Stands h' h'' s.now tally' → IsAtEnd (unread told b) ⊎ QuitLine told b c
-    → IfSome (unread told a) (λ bytes. AnsweredWhole by Stands state (lines_of bytes) h h'' tally')
-so_far_ends by Stood Stands told a b c state tally tally' h h' h'' s e how =
-    let lines = map without_cr s.raws in
-    let appended = Appends-kept h h' h'' s.now.text s.appended e.same.kept in
-    elim how [
-      | inl end ↦
-          over (unread told a) (λ xs. lines_of xs ≡ lines) _ (all_texts (unread told a) (unread told b) a.taken b.taken s.raws s.handed.took end)
-          (λ xs is. answers_all by Stands state (lines_of xs) lines s.failures s.now h h'' tally'
-          (ap (before_first ends_script) is ∙ before_all lines s.done.go_on) s.done appended e.same.stands e.counts)
-      | inr q ↦
-          over (unread told a) _ _ (begins_more (unread told a) (unread told c) a.taken c.taken s.raws q.raw
-          (handed_then told a b c s.raws (q.raw ∷ []) s.handed q.handed).took)
-          (λ xs is. answers_all by Stands state (lines_of xs) lines s.failures s.now h h'' tally'
-          (ap (before_first ends_script) is.1 ∙ before_quit lines (without_cr q.raw) is.0 s.done.go_on q.quits) s.done appended
-          e.same.stands e.counts)
-    ]
-
--- The session of the first lines of a script.
-session_after_is : (by : Answering (List ℕ)) (state : by.State) (script lines rest : List (List ℕ)) (failures : List (Option ℕ))
-    (now : Session by.State) (n : ℕ) → answered_lines script ≡ lines ++ rest → take n (lines ++ rest) ≡ lines
-    → Done by state lines failures now → session_after by state script failures n ≡ now
-session_after_is by state script lines rest failures now n is first done =
-    ap (λ ls. after_each by failures (begin_at state) ls) (ap (take n) is ∙ first) ∙ done.is
-
--- attempts failed only where they may, and none of later lines
-allows_all : (by : Answering (List ℕ)) (state : by.State) (script lines rest : List (List ℕ)) (failures : List (Option ℕ))
-    (now : Session by.State) → answered_lines script ≡ lines ++ rest → Done by state lines failures now
-    → Allows by state script failures
-allows_all by state script lines rest failures now is done =
-    subst (λ ls. AreAllowed by failures (begin_at state) ls) (sym is)
-    (allowed_further by failures (begin_at state) lines rest done.each done.allowed)
-
 take_raws : (raws rest : List (List ℕ)) → take (length raws) (map without_cr raws ++ rest) ≡ map without_cr raws
 take_raws raws rest = ap (λ n. take n (map without_cr raws ++ rest)) (sym (length-map raws without_cr))
     ∙ take-append_seam (map without_cr raws) rest
-
-take_past : (raws : List (List ℕ)) (raw : List ℕ) → take (length (raws ++ raw ∷ [])) (map without_cr raws ++ []) ≡ map without_cr raws
-take_past raws raw =
-    take_all (length (raws ++ raw ∷ [])) (map without_cr raws ++ [])
-    (omega (arith, length-append raws (raw ∷ []), length-map raws without_cr, ap length (append-nil (map without_cr raws))))
-    ∙ append-nil (map without_cr raws)
 
 -- the bytes that were taken are those of the lines
 handed_all : (a c : Option (List ℕ)) (i k : ℕ) (raws : List (List ℕ)) → LinesBetween a c i k raws
@@ -123,154 +63,176 @@ but_last by state raws rest failures h h' p =
     subst (λ ls. AppendsAtLeast h h' (after_each by failures (begin_at state) ls).text)
     (ap (λ n. take (n - 1) lines) count ∙ sym first) p
 
--- The sink failed.
-answers_front : (by : Answering (List ℕ)) (Stands : by.State → Type 0) (state : by.State) (xs : List ℕ) (o : Known)
-    (lines rest : List (List ℕ)) (failures : List (Option ℕ)) (now : Session by.State) (n : ℕ) (h h' : Known) (written more : List ℕ)
-    → answered_lines (lines_of xs) ≡ lines ++ rest → take n (lines ++ rest) ≡ lines → Done by state lines failures now
-    → IfSome o (λ ys. xs ≡ first_lines n xs ++ ys) → now.text ≡ written ++ more → Appends h h' written
-    → AppendsAtLeast h h' (after_each by failures (begin_at state) (take (n - 1) (lines ++ rest))).text → Stands now.state
-    → AnsweredPrefix by Stands state xs o h h'
-answers_front by Stands state xs o lines rest failures now n h h' written more is first done handed text appended earlier stands =
-    let same = session_after_is by state (lines_of xs) lines rest failures now n is first done in
-    record {
-      failures = failures;
-      allows = allows_all by state (lines_of xs) lines rest failures now is done;
-      lines = n;
-      handed = handed;
-      text = front_made h h' written more (session_after by state (lines_of xs) failures n).text (ap (λ s. s.text) same ∙ text) appended;
-      earlier = subst (λ ls. AppendsAtLeast h h' (after_each by failures (begin_at state) (take (n - 1) ls)).text) (sym is) earlier;
-      stands = subst (λ (s : Session by.State). Stands s.state) (sym same) stands;
-    }
+-- These lines were done, and `rest` would be answered behind them.
+module _ {by : Answering (List ℕ)} {state : by.State} {lines : List (List ℕ)} {failures : List (Option ℕ)} {now : Session by.State}
+    (done : Done by state lines failures now) where
+  -- the session of the first lines of a script
+  session_after_is : (script rest : List (List ℕ)) (n : ℕ) → answered_lines script ≡ lines ++ rest → take n (lines ++ rest) ≡ lines
+      → session_after by state script failures n ≡ now
+  session_after_is script rest n is first =
+      ap (λ ls. after_each by failures (begin_at state) ls) (ap (take n) is ∙ first) ∙ done.is
 
--- between two lines
-stops : {S : Type 0} (by : Answering (List ℕ)) (Stood Stands : by.State → Type 0)
-    (told : ToldBySource S) (a b c : Lines S) (state : by.State) (tally : Tally) (h h' h'' : Known)
-    → (s : SoFar by Stood told a b state tally h h') → Untouched Stands h' h'' s.now
-    → IfSome (unread told b) (λ xs. IfSome (unread told c) (λ ys. xs ≡ ys))
-    → IfSome (unread told a) (λ bytes. AnsweredPrefix by Stands state bytes (unread told c) h h'')
-stops by Stood Stands told a b c state tally h h' h'' s u same =
-    let lines = map without_cr s.raws in
-    let appended = Appends-kept h h' h'' s.now.text s.appended u.kept in
-    let first = s.done.earlier in
-    with_both (unread told a) _ _ _ (begins (unread told a) (unread told b) a.taken b.taken s.raws s.handed.took)
-    (handed_still (unread told a) (unread told b) (unread told c) a.taken b.taken s.raws s.handed.took same) (λ xs is handed.
-    answers_front by Stands state xs (unread told c) lines (before_first ends_script is.0) s.failures s.now (length s.raws) h h'' s.now.text []
-    (ap (before_first ends_script) is.1 ∙ before_end lines is.0 s.done.go_on) (take_raws s.raws (before_first ends_script is.0)) s.done
-    handed (sym (append-nil s.now.text)) appended
-    (but_last by state s.raws (before_first ends_script is.0) s.failures h h''
-    (first.more, subst (λ (v : List ℕ). Appends h h'' v) first.text appended)) u.stands)
+  -- attempts failed only where they may, and none of later lines
+  allows_all : (script rest : List (List ℕ)) → answered_lines script ≡ lines ++ rest → Allows by state script failures
+  allows_all script rest is = subst (λ ls. AreAllowed by failures (begin_at state) ls) (sym is)
+      (allowed_further by failures (begin_at state) lines rest done.each done.allowed)
 
--- all lines but the one that ends the script
-all_but_quit : (by : Answering (List ℕ)) (state : by.State) (raws : List (List ℕ)) (raw : List ℕ) (failures : List (Option ℕ))
-    (now : Session by.State) (h h' : Known) → Done by state (map without_cr raws) failures now → Appends h h' now.text
-    → AppendsAtLeast h h' (after_each by failures (begin_at state) (take (length (raws ++ raw ∷ []) - 1) (map without_cr raws ++ []))).text
-all_but_quit by state raws raw failures now h h' done appended =
-    let lines = map without_cr raws in
-    let most : length (lines ++ []) ≤ length (raws ++ raw ∷ []) - 1 =
-    omega (arith, length-append raws (raw ∷ []), length-map raws without_cr, ap length (append-nil lines)) in
-    let is = ap (λ ls. after_each by failures (begin_at state) ls) (take_all (length (raws ++ raw ∷ []) - 1) (lines ++ []) most ∙ append-nil lines)
-    ∙ done.is in
-    ([], subst (λ (v : List ℕ). Appends h h' v) (ap (λ (s : Session by.State). s.text) (sym is) ∙ sym (append-nil _)) appended)
+  -- the whole script was answered
+  answers_all : {Stands : by.State → Type 0} {script : List (List ℕ)} {h h' : Known} {tally : Tally} → answered_lines script ≡ lines
+      → Appends h h' now.text → Stands now.state → now.counts ≡ counts_in tally → AnsweredWhole by Stands state script h h' tally
+  answers_all {Stands} {script} {h} {h'} is appended stands counts =
+      let same : whole_session by state script failures ≡ now = ap (after_each by failures (begin_at state)) is ∙ done.is in
+      record {
+        failures = failures;
+        allows = subst (λ ls. AreAllowed by failures (begin_at state) ls) (sym is) done.allowed;
+        text = subst (λ (s : Session by.State). Appends h h' s.text) (sym same) appended;
+        counts = sym (ap (λ s. s.counts) same ∙ counts);
+        stands = subst (λ (s : Session by.State). Stands s.state) (sym same) stands;
+      }
 
--- after the line that ends the script
-stops_at_quit : {S : Type 0} (by : Answering (List ℕ)) (Stood Stands : by.State → Type 0)
-    (told : ToldBySource S) (a b c : Lines S) (state : by.State) (tally : Tally) (h h' h'' : Known)
-    → (s : SoFar by Stood told a b state tally h h') → Untouched Stands h' h'' s.now → QuitLine told b c
-    → IfSome (unread told a) (λ bytes. AnsweredPrefix by Stands state bytes (unread told c) h h'')
-stops_at_quit by Stood Stands told a b c state tally h h' h'' s u q =
-    let lines = map without_cr s.raws in
-    let appended = Appends-kept h h' h'' s.now.text s.appended u.kept in
-    let both = handed_then told a b c s.raws (q.raw ∷ []) s.handed q.handed in
-    with_both (unread told a) _ _ _ (begins_more (unread told a) (unread told c) a.taken c.taken s.raws q.raw both.took)
-    (handed_all (unread told a) (unread told c) a.taken c.taken (s.raws ++ q.raw ∷ []) both.took) (λ xs is handed.
-    answers_front by Stands state xs (unread told c) lines [] s.failures s.now (length (s.raws ++ q.raw ∷ [])) h h'' s.now.text []
-    (ap (before_first ends_script) is.1 ∙ before_quit lines (without_cr q.raw) is.0 s.done.go_on q.quits ∙ sym (append-nil lines))
-    (take_past s.raws q.raw) s.done handed (sym (append-nil s.now.text)) appended
-    (all_but_quit by state s.raws q.raw s.failures s.now h h'' s.done appended) u.stands)
+  -- the sink failed
+  answers_front : {Stands : by.State → Type 0} {xs : List ℕ} {o h h' : Known} (rest : List (List ℕ)) (n : ℕ) (written more : List ℕ)
+      → answered_lines (lines_of xs) ≡ lines ++ rest → take n (lines ++ rest) ≡ lines → IfSome o (λ ys. xs ≡ first_lines n xs ++ ys)
+      → now.text ≡ written ++ more → Appends h h' written
+      → AppendsAtLeast h h' (after_each by failures (begin_at state) (take (n - 1) (lines ++ rest))).text → Stands now.state
+      → AnsweredPrefix by Stands state xs o h h'
+  answers_front {Stands} {xs} {h} {h'} rest n written more is first handed text appended earlier stands =
+      let same = session_after_is (lines_of xs) rest n is first in
+      record {
+        failures = failures;
+        allows = allows_all (lines_of xs) rest is;
+        lines = n;
+        handed = handed;
+        text = front_made h h' written more (session_after by state (lines_of xs) failures n).text (ap (λ s. s.text) same ∙ text) appended;
+        earlier = subst (λ ls. AppendsAtLeast h h' (after_each by failures (begin_at state) (take (n - 1) ls)).text) (sym is) earlier;
+        stands = subst (λ (s : Session by.State). Stands s.state) (sym same) stands;
+      }
 
--- within a reply
-stops_in_reply : {S : Type 0} (by : Answering (List ℕ)) (Stood Stands : by.State → Type 0)
-    (told : ToldBySource S) (a b c : Lines S) (state : by.State) (tally : Tally) (h h' h'' : Known) → (s : SoFar by Stood told a b state tally h h')
-    → HalfAnsweredLine by Stands told b c h' h'' s.now
-    → IfSome (unread told a) (λ bytes. AnsweredPrefix by Stands state bytes (unread told c) h h'')
-stops_in_reply by Stood Stands told a b c state tally h h' h'' s t =
-    let w = t.part.done in
-    let raws = s.raws ++ t.raw ∷ [] in
-    let lines = map without_cr raws in
-    let failures = s.failures ++ w.failed ∷ [] in
-    let both = handed_then told a b c s.raws (t.raw ∷ []) s.handed t.handed in
-    let reply = t.part.reply in
-    let part = AppendsFront-is h' h'' reply t.part.front in
-    let front = take part.0 reply in
-    let rest = drop part.0 reply in
-    let done : Done by state lines failures w.next =
-    subst (λ ls. Done by state ls failures w.next) (sym (map-append without_cr s.raws (t.raw ∷ [])))
-    (done_more by Stands state (map without_cr s.raws) s.failures s.now (without_cr t.raw) reply s.done w) in
-    let before : after_each by failures (begin_at state) (take (length lines - 1) lines) ≡ s.now =
-    ap (λ ls. after_each by failures (begin_at state) (take (length ls - 1) ls)) (map-append without_cr s.raws (t.raw ∷ []))
-    ∙ before_last by state (map without_cr s.raws) s.failures s.now (without_cr t.raw) w.failed s.done in
-    let appended = Appends-trans h h' h'' s.now.text front s.appended part.1 in
-    with_both (unread told a) _ _ _ (begins (unread told a) (unread told c) a.taken c.taken raws both.took)
-    (handed_all (unread told a) (unread told c) a.taken c.taken raws both.took) (λ xs is handed.
-    answers_front by Stands state xs (unread told c) lines (before_first ends_script is.0) failures w.next
-    (length raws) h h'' (s.now.text ++ front) rest
-    (ap (before_first ends_script) is.1 ∙ before_end lines is.0 done.go_on) (take_raws raws (before_first ends_script is.0)) done handed
-    (w.text ∙ ap (λ v. s.now.text ++ v) (sym (take-append-drop part.0 reply)) ∙ sym (append_assoc s.now.text front rest))
-    appended
-    (but_last by state raws (before_first ends_script is.0) failures h h''
-    (subst (λ (v : Session by.State). AppendsAtLeast h h'' v.text) (sym before) (front, appended))) w.stands)
+-- A session has come so far, and then what answers stands for a state in this sense, the lines are these, and this was written.
+module _ {S : Type 0} {by : Answering (List ℕ)} {Stood : by.State → Type 0} {told : ToldBySource S} {a b : Lines S} {state : by.State}
+    {tally : Tally} {h h' : Known} (s : SoFar by Stood told a b state tally h h') (Stands : by.State → Type 0) (c : Lines S) (h'' : Known) where
+  abbrev lines : List (List ℕ)
+  lines = map without_cr s.raws
 
-so_far_stops : {S : Type 0} (by : Answering (List ℕ)) (Stood Stands : by.State → Type 0)
-    (told : ToldBySource S) (a b c : Lines S) (state : by.State) (tally : Tally) (h h' h'' : Known)
-    → (s : SoFar by Stood told a b state tally h h') → SinkStop by Stands told b c h' h'' s.now
-    → IfSome (unread told a) (λ bytes. AnsweredPrefix by Stands state bytes (unread told c) h h'')
-so_far_stops by Stood Stands told a b c state tally h h' h'' s how = elim how [
-  | inl whole ↦ elim whole.1 [
-    | inl same ↦ stops by Stood Stands told a b c state tally h h' h'' s whole.0 same
-    | inr quit ↦ stops_at_quit by Stood Stands told a b c state tally h h' h'' s whole.0 quit
+  -- The script has ended: the whole text was written.
+  pub so_far_ends : {tally' : Tally} → ScriptEnd Stands h' h'' s.now tally' → IsAtEnd (unread told b) ⊎ QuitLine told b c
+      → IfSome (unread told a) (λ bytes. AnsweredWhole by Stands state (lines_of bytes) h h'' tally')
+  so_far_ends e how =
+      let appended = Appends-kept h h' h'' s.now.text s.appended e.same.kept in
+      elim how [
+        | inl end ↦
+            over (unread told a) (λ xs. lines_of xs ≡ lines) _ (all_texts (unread told a) (unread told b) a.taken b.taken s.raws s.handed.took end)
+            (λ xs is. answers_all s.done (ap (before_first ends_script) is ∙ before_all lines s.done.go_on) appended e.same.stands e.counts)
+        | inr q ↦
+            over (unread told a) _ _ (begins_more (unread told a) (unread told c) a.taken c.taken s.raws q.raw
+            (handed_then told a b c s.raws (q.raw ∷ []) s.handed q.handed).took)
+            (λ xs is. answers_all s.done
+            (ap (before_first ends_script) is.1 ∙ before_quit lines (without_cr q.raw) is.0 s.done.go_on q.quits) appended e.same.stands e.counts)
+      ]
+
+  -- The sink failed, between two lines,
+  stops : Untouched Stands h' h'' s.now → IfSome (unread told b) (λ xs. IfSome (unread told c) (λ ys. xs ≡ ys))
+      → IfSome (unread told a) (λ bytes. AnsweredPrefix by Stands state bytes (unread told c) h h'')
+  stops u same =
+      let appended = Appends-kept h h' h'' s.now.text s.appended u.kept in
+      let first = s.done.earlier in
+      with_both (unread told a) _ _ _ (begins (unread told a) (unread told b) a.taken b.taken s.raws s.handed.took)
+      (handed_still (unread told a) (unread told b) (unread told c) a.taken b.taken s.raws s.handed.took same) (λ xs is handed.
+      let rest = before_first ends_script is.0 in
+      answers_front s.done rest (length s.raws) s.now.text []
+      (ap (before_first ends_script) is.1 ∙ before_end lines is.0 s.done.go_on) (take_raws s.raws rest)
+      handed (sym (append-nil s.now.text)) appended
+      (but_last by state s.raws rest s.failures h h'' (first.more, subst (λ (v : List ℕ). Appends h h'' v) first.text appended)) u.stands)
+
+  -- after the line that ends the script,
+  stops_at_quit : Untouched Stands h' h'' s.now → QuitLine told b c
+      → IfSome (unread told a) (λ bytes. AnsweredPrefix by Stands state bytes (unread told c) h h'')
+  stops_at_quit u q =
+      let n = length (s.raws ++ q.raw ∷ []) in
+      let appended = Appends-kept h h' h'' s.now.text s.appended u.kept in
+      let both = handed_then told a b c s.raws (q.raw ∷ []) s.handed q.handed in
+      let most : length (lines ++ []) ≤ n - 1 =
+      omega (arith, length-append s.raws (q.raw ∷ []), length-map s.raws without_cr, ap length (append-nil lines)) in
+      let all = ap (λ ls. after_each by s.failures (begin_at state) ls) (take_all (n - 1) (lines ++ []) most ∙ append-nil lines) ∙ s.done.is in
+      with_both (unread told a) _ _ _ (begins_more (unread told a) (unread told c) a.taken c.taken s.raws q.raw both.took)
+      (handed_all (unread told a) (unread told c) a.taken c.taken (s.raws ++ q.raw ∷ []) both.took) (λ xs is handed.
+      answers_front s.done [] n s.now.text []
+      (ap (before_first ends_script) is.1 ∙ before_quit lines (without_cr q.raw) is.0 s.done.go_on q.quits ∙ sym (append-nil lines))
+      (take_all n (lines ++ []) (omega (arith, most)) ∙ append-nil lines) handed (sym (append-nil s.now.text)) appended
+      ([], subst (λ (v : List ℕ). Appends h h'' v) (ap (λ (t : Session by.State). t.text) (sym all) ∙ sym (append-nil _)) appended) u.stands)
+
+  -- or within a reply.
+  stops_in_reply : HalfAnsweredLine by Stands told b c h' h'' s.now
+      → IfSome (unread told a) (λ bytes. AnsweredPrefix by Stands state bytes (unread told c) h h'')
+  stops_in_reply t =
+      let w = t.part.done in
+      let raws = s.raws ++ t.raw ∷ [] in
+      let failures = s.failures ++ w.failed ∷ [] in
+      let both = handed_then told a b c s.raws (t.raw ∷ []) s.handed t.handed in
+      let reply = t.part.reply in
+      let part = AppendsFront-is h' h'' reply t.part.front in
+      let front = take part.0 reply in
+      let rest = drop part.0 reply in
+      let lines_are : map without_cr raws ≡ lines ++ without_cr t.raw ∷ [] = map-append without_cr s.raws (t.raw ∷ []) in
+      let done : Done by state (map without_cr raws) failures w.next =
+      subst (λ ls. Done by state ls failures w.next) (sym lines_are) (done_more s.done w) in
+      let before : after_each by failures (begin_at state) (take (length (map without_cr raws) - 1) (map without_cr raws)) ≡ s.now =
+      ap (λ ls. after_each by failures (begin_at state) (take (length ls - 1) ls)) lines_are ∙ before_last (without_cr t.raw) w.failed s.done in
+      let appended = Appends-trans h h' h'' s.now.text front s.appended part.1 in
+      with_both (unread told a) _ _ _ (begins (unread told a) (unread told c) a.taken c.taken raws both.took)
+      (handed_all (unread told a) (unread told c) a.taken c.taken raws both.took) (λ xs is handed.
+      let others = before_first ends_script is.0 in
+      answers_front done others (length raws) (s.now.text ++ front) rest
+      (ap (before_first ends_script) is.1 ∙ before_end (map without_cr raws) is.0 done.go_on) (take_raws raws others) handed
+      (w.text ∙ ap (λ v. s.now.text ++ v) (sym (take-append-drop part.0 reply)) ∙ sym (append_assoc s.now.text front rest))
+      appended
+      (but_last by state raws others failures h h''
+      (subst (λ (v : Session by.State). AppendsAtLeast h h'' v.text) (sym before) (front, appended))) w.stands)
+
+  so_far_stops : SinkStop by Stands told b c h' h'' s.now
+      → IfSome (unread told a) (λ bytes. AnsweredPrefix by Stands state bytes (unread told c) h h'')
+  so_far_stops how = elim how [
+    | inl whole ↦ elim whole.1 [
+      | inl same ↦ stops whole.0 same
+      | inr quit ↦ stops_at_quit whole.0 quit
+    ]
+    | inr part ↦ stops_in_reply part
   ]
-  | inr part ↦ stops_in_reply by Stood Stands told a b c state tally h h' h'' s part
-]
 
--- The source failed, or its limit was passed.
-so_far_unread : {S : Type 0} (by : Answering (List ℕ)) (Stood Stands : by.State → Type 0)
-    (told : ToldBySource S) (a b c : Lines S) (state : by.State) (tally : Tally) (h h' h'' : Known)
-    → (s : SoFar by Stood told a b state tally h h') → Untouched Stands h' h'' s.now → NotTaken told b c
-    → IfSome (unread told a) (λ bytes. AnsweredTaken by Stands state a.taken bytes (told.left c.source.now) h h'')
-so_far_unread by Stood Stands told a b c state tally h h' h'' s u n =
-    let lines = map without_cr s.raws in
-    with_both (unread told a) _ _ _ (begins (unread told a) (unread told b) a.taken b.taken s.raws s.handed.took)
-    (cut_off told a b c s.raws s.handed.took n) (λ xs is cut.
-    let rest = before_first ends_script is.0 in
-    let before : answered_lines (lines_of xs) ≡ lines ++ rest = ap answered_lines is.1 ∙ before_end lines is.0 s.done.go_on in
-    let now : session_after by state (lines_of xs) s.failures cut.0.lines ≡ s.now =
-    ap (session_after by state (lines_of xs) s.failures) cut.1
-    ∙ session_after_is by state (lines_of xs) lines rest s.failures s.now (length s.raws) before (take_raws s.raws rest) s.done in
-    record {
-      failures = s.failures;
-      allows = allows_all by state (lines_of xs) lines rest s.failures s.now before s.done;
-      cut = cut.0;
-      short =
-          let at = ap (position_or_len ends_script) is.1 in
-          omega (arith, at, ends_after lines is.0 s.done.go_on, cut.1, length-map s.raws without_cr);
-      text = subst (λ (v : Session by.State). Appends h h'' v.text) (sym now) (Appends-kept h h' h'' s.now.text s.appended u.kept);
-      stands = subst (λ (v : Session by.State). Stands v.state) (sym now) u.stands;
-    })
+  -- The source failed, or its limit was passed.
+  so_far_unread : Untouched Stands h' h'' s.now → NotTaken told b c
+      → IfSome (unread told a) (λ bytes. AnsweredTaken by Stands state a.taken bytes (told.left c.source.now) h h'')
+  so_far_unread u n =
+      with_both (unread told a) _ _ _ (begins (unread told a) (unread told b) a.taken b.taken s.raws s.handed.took)
+      (cut_off told a b c s.raws s.handed.took n) (λ xs is cut.
+      let rest = before_first ends_script is.0 in
+      let before : answered_lines (lines_of xs) ≡ lines ++ rest = ap answered_lines is.1 ∙ before_end lines is.0 s.done.go_on in
+      let now : session_after by state (lines_of xs) s.failures cut.0.lines ≡ s.now =
+      ap (session_after by state (lines_of xs) s.failures) cut.1
+      ∙ session_after_is s.done (lines_of xs) rest (length s.raws) before (take_raws s.raws rest) in
+      record {
+        failures = s.failures;
+        allows = allows_all s.done (lines_of xs) rest before;
+        cut = cut.0;
+        short =
+            let at = ap (position_or_len ends_script) is.1 in
+            omega (arith, at, ends_after lines is.0 s.done.go_on, cut.1, length-map s.raws without_cr);
+        text = subst (λ (v : Session by.State). Appends h h'' v.text) (sym now) (Appends-kept h h' h'' s.now.text s.appended u.kept);
+        stands = subst (λ (v : Session by.State). Stands v.state) (sym now) u.stands;
+      })
 
 -- The session ended by a fault.
-pub so_far_fails : {S Since : Type 0} (by : Answering (List ℕ)) (Stood Stands : Since → by.State → Type 0) (since : Since) (told : ToldBySource S)
-    (a b c : Lines S) (state : by.State) (tally tally' : Tally) (h h' h'' : Known) (fault : SessionFault)
+pub so_far_fails : {S Since : Type 0} {by : Answering (List ℕ)} {told : ToldBySource S} {a b : Lines S} {state : by.State} {tally : Tally}
+    {h h' : Known} (Stood Stands : Since → by.State → Type 0) (since : Since) (c : Lines S) (tally' : Tally) (h'' : Known) (fault : SessionFault)
     → SoFar by (Stood since) told a b state tally h h' → LineOutcome by Stood Stands told b c h' h'' tally tally' (Err fault)
     → IfSome (unread told a)
     (λ bytes. ScriptAnswered by (Stands since) state a.taken bytes (unread told c) (told.left c.source.now) h h'' (Err fault))
-so_far_fails by Stood Stands since told a b c state tally tally' h h' h'' ReadFault s o =
-    so_far_unread by (Stood since) (Stands since) told a b c state tally h h' h'' s (o.same since s.now s.stands s.counts) o.cut
-so_far_fails by Stood Stands since told a b c state tally tally' h h' h'' InputTooLong s o =
-    so_far_unread by (Stood since) (Stands since) told a b c state tally h h' h'' s (o.0.same since s.now s.stands s.counts) o.0.cut
-so_far_fails by Stood Stands since told a b c state tally tally' h h' h'' WriteFault s o =
-    so_far_stops by (Stood since) (Stands since) told a b c state tally h h' h'' s (o since s.now s.stands s.counts)
-so_far_fails by Stood Stands since told a b c state tally tally' h h' h'' Memory s o =
-    so_far_stops by (Stood since) (Stands since) told a b c state tally h h' h'' s (o since s.now s.stands s.counts)
+so_far_fails Stood Stands since c tally' h'' ReadFault s o =
+    so_far_unread s (Stands since) c h'' (o.same since s.now s.stands s.counts) o.cut
+so_far_fails Stood Stands since c tally' h'' InputTooLong s o =
+    so_far_unread s (Stands since) c h'' (o.0.same since s.now s.stands s.counts) o.0.cut
+so_far_fails Stood Stands since c tally' h'' WriteFault s o = so_far_stops s (Stands since) c h'' (o since s.now s.stands s.counts)
+so_far_fails Stood Stands since c tally' h'' Memory s o = so_far_stops s (Stands since) c h'' (o since s.now s.stands s.counts)
 
 -- The limit of the input.
 always : (o : Option (List ℕ)) (P : List ℕ → Type 0) → ((xs : List ℕ) → P xs) → IfSome o P
@@ -281,10 +243,8 @@ pub fails_by_limit : {S Since : Type 0} (by : Answering (List ℕ)) (Stood Stand
     (told : ToldBySource S) (a b c : Lines S) (tally tally' : Tally) (h' h'' : Known) (fault : SessionFault)
     → Passed told a b → LineOutcome by Stood Stands told b c h' h'' tally tally' (Err fault)
     → IfSome (unread told a) (λ bytes. KeepsLimit a.taken bytes (Err fault))
-fails_by_limit by Stood Stands told a b c tally tally' h' h'' ReadFault passed o = always (unread told a) _ (λ xs. tt)
 fails_by_limit by Stood Stands told a b c tally tally' h' h'' InputTooLong passed o = too_long told a b c passed o.1
-fails_by_limit by Stood Stands told a b c tally tally' h' h'' WriteFault passed o = always (unread told a) _ (λ xs. tt)
-fails_by_limit by Stood Stands told a b c tally tally' h' h'' Memory passed o = always (unread told a) _ (λ xs. tt)
+fails_by_limit by Stood Stands told a b c tally tally' h' h'' other passed o = always (unread told a) _ (λ xs. tt)
 
 -- The replies to the first lines are a front of the replies to all.
 pub more_of_whole : (by : Answering (List ℕ)) → IsLawful by → (state : by.State) (script : List (List ℕ)) (failures : List (Option ℕ)) (n : ℕ)
@@ -339,9 +299,3 @@ module _ (by : Answering (List ℕ)) (Stands Stands' : by.State → Type 0) (als
   stands_as before bytes unread left h h' (Err InputTooLong) a = taken_as before bytes left h h' a
   stands_as before bytes unread left h h' (Err WriteFault) a = prefix_as bytes unread h h' a
   stands_as before bytes unread left h h' (Err Memory) a = prefix_as bytes unread h h' a
-
--- the answer that `?` makes of a fault
-pub through : {T : Type 0} (P : Result T SessionFault → Type 0) (r : Result T SessionFault) (fault : SessionFault) → IsErr r
-    × IsErrAnd r (λ own. own ≡ fault) → P (Err fault) → P r
-through P (Ok x) fault is p = absurd is.1
-through P (Err own) fault is p = subst (λ v. P (Err v)) (sym is.1) p

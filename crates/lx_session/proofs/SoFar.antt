@@ -24,28 +24,28 @@ pub record Done (by : Answering (List ℕ)) (state : by.State) (script : List (L
   pub allowed : AreAllowed by failures (begin_at state) script
   pub earlier : ExtendsText (after_each by failures (begin_at state) (take (length script - 1) script)) now
 
-pub done_none : (by : Answering (List ℕ)) (state : by.State) → Done by state [] [] (begin_at state)
-done_none by state = record { go_on = tt; each = refl; is = refl; allowed = tt; earlier = record { more = []; text = refl } }
+done_none : {by : Answering (List ℕ)} {state : by.State} → Done by state [] [] (begin_at state)
+done_none = record { go_on = tt; each = refl; is = refl; allowed = tt; earlier = record { more = []; text = refl } }
 
 pub go_on_append : (xs : List (List ℕ)) (l : List ℕ) → GoOn xs → ends_script l ≡ false → GoOn (xs ++ l ∷ [])
 go_on_append [] l all more = (more, tt)
 go_on_append (x ∷ xs) l all more = (all.0, go_on_append xs l all.1 more)
 
 -- before one more line the session had come this far
-pub before_last : (by : Answering (List ℕ)) (state : by.State) (script : List (List ℕ)) (failures : List (Option ℕ)) (now : Session by.State)
+pub before_last : {by : Answering (List ℕ)} {state : by.State} {script : List (List ℕ)} {failures : List (Option ℕ)} {now : Session by.State}
     (line : List ℕ) (failed : Option ℕ) → Done by state script failures now
     → after_each by (failures ++ failed ∷ []) (begin_at state) (take (length (script ++ line ∷ []) - 1) (script ++ line ∷ [])) ≡ now
-before_last by state script failures now line failed done =
+before_last {by} {state} {script} {failures} line failed done =
     let count : length (script ++ line ∷ []) - 1 ≡ length script = omega (arith, length-append script (line ∷ [])) in
     ap (λ ls. after_each by (failures ++ failed ∷ []) (begin_at state) ls)
     (ap (λ n. take n (script ++ line ∷ [])) count ∙ take-append_seam script (line ∷ []) ∙ sym (append-nil script))
     ∙ each-append by failures (failed ∷ []) (begin_at state) script [] done.each ∙ done.is
 
 -- one more line
-pub done_more : (by : Answering (List ℕ)) (Stands : by.State → Type 0) (state : by.State) (script : List (List ℕ))
-    (failures : List (Option ℕ)) (now : Session by.State) (line reply : List ℕ) → Done by state script failures now
+pub done_more : {by : Answering (List ℕ)} {Stands : by.State → Type 0} {state : by.State} {script : List (List ℕ)}
+    {failures : List (Option ℕ)} {now : Session by.State} {line reply : List ℕ} → Done by state script failures now
     → (w : DoneLine by Stands now line reply) → Done by state (script ++ line ∷ []) (failures ++ w.failed ∷ []) w.next
-done_more by Stands state script failures now line reply done w =
+done_more {by} {state} {script} {failures} {line} {reply} done w =
     let one = w.failed ∷ [] in
     record {
       go_on = go_on_append script line done.go_on w.more;
@@ -56,8 +56,7 @@ done_more by Stands state script failures now line reply done w =
           (subst (λ s. AreAllowed by one s (line ∷ [])) (sym done.is) (w.goes_on.allowed, tt));
       earlier = record {
         more = reply;
-        text = w.text ∙ ap (λ (s : Session by.State). s.text ++ reply)
-            (sym (before_last by state script failures now line w.failed done));
+        text = w.text ∙ ap (λ (s : Session by.State). s.text ++ reply) (sym (before_last line w.failed done));
       };
     }
 
@@ -73,25 +72,25 @@ pub record SoFar {S : Type 0} (by : Answering (List ℕ)) (Stands : by.State →
   pub appended : Appends h h' now.text
   pub counts : now.counts ≡ counts_in tally
 
-pub so_far_none : {S : Type 0} (by : Answering (List ℕ)) (Stands : by.State → Type 0) (told : ToldBySource S) (a : Lines S)
-    (state : by.State) (tally : Tally) (h : Known) → IsTrue a.going → Stands state
+pub so_far_none : {S : Type 0} {by : Answering (List ℕ)} {Stands : by.State → Type 0} {told : ToldBySource S} {a : Lines S}
+    {state : by.State} {tally : Tally} {h : Known} → IsTrue a.going → Stands state
     → counts_in tally ≡ record { ok = 0; refused = 0; bad = 0 } → SoFar by Stands told a a state tally h h
-so_far_none by Stands told a state tally h going stands counts = record {
+so_far_none {told} {a} {state} {h} going stands counts = record {
   raws = [];
   handed = handed_none told a going;
   failures = [];
   now = begin_at state;
-  done = done_none by state;
+  done = done_none;
   stands = stands;
   appended = Appends-nil h;
   counts = sym counts;
 }
 
-pub so_far_more : {S : Type 0} (by : Answering (List ℕ)) (Stood Stands : by.State → Type 0) (told : ToldBySource S)
-    (a b c : Lines S) (state : by.State) (tally tally' : Tally) (h h' h'' : Known)
+pub so_far_more : {S : Type 0} {by : Answering (List ℕ)} {Stood Stands : by.State → Type 0} {told : ToldBySource S}
+    {a b c : Lines S} {state : by.State} {tally tally' : Tally} {h h' h'' : Known}
     → (s : SoFar by Stood told a b state tally h h') → AnsweredLine by Stands told b c h' h'' s.now tally'
     → SoFar by Stands told a c state tally' h h''
-so_far_more by Stood Stands told a b c state tally tally' h h' h'' s t =
+so_far_more {by} {told} {a} {b} {c} {state} {h} {h'} {h''} s t =
     let w = t.whole.done in
     record {
       raws = s.raws ++ t.raw ∷ [];
@@ -99,7 +98,7 @@ so_far_more by Stood Stands told a b c state tally tally' h h' h'' s t =
       failures = s.failures ++ w.failed ∷ [];
       now = w.next;
       done = subst (λ ls. Done by state ls (s.failures ++ w.failed ∷ []) w.next) (sym (map-append without_cr s.raws (t.raw ∷ [])))
-          (done_more by Stands state (map without_cr s.raws) s.failures s.now (without_cr t.raw) t.whole.reply s.done w);
+          (done_more s.done w);
       stands = w.stands;
       appended = subst (λ (x : List ℕ). Appends h h'' x) (sym w.text)
           (Appends-trans h h' h'' s.now.text t.whole.reply s.appended t.whole.appended);
@@ -112,11 +111,11 @@ pub record Passed {S : Type 0} (told : ToldBySource S) (a b : Lines S) : Type 0 
   pub handed : HandedOut told a b raws
   pub go_on : GoOn (map without_cr raws)
 
-pub passed_none : {S : Type 0} (told : ToldBySource S) (a : Lines S) → IsTrue a.going → Passed told a a
-passed_none told a going = record { raws = []; handed = handed_none told a going; go_on = tt }
+pub passed_none : {S : Type 0} {told : ToldBySource S} {a : Lines S} → IsTrue a.going → Passed told a a
+passed_none {told} {a} going = record { raws = []; handed = handed_none told a going; go_on = tt }
 
-pub passed_more : {S : Type 0} (told : ToldBySource S) (a b c : Lines S) → Passed told a b → PassedLine told b c → Passed told a c
-passed_more told a b c p one = record {
+pub passed_more : {S : Type 0} {told : ToldBySource S} {a b c : Lines S} → Passed told a b → PassedLine told b c → Passed told a c
+passed_more {told} {a} {b} {c} p one = record {
   raws = p.raws ++ one.raw ∷ [];
   handed = handed_then told a b c p.raws (one.raw ∷ []) p.handed one.handed;
   go_on = subst GoOn (sym (map-append without_cr p.raws (one.raw ∷ [])))

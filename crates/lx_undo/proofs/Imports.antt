@@ -5,7 +5,7 @@ pub use Rattle.std.proofs.Common.{length-append, List, nat_lt, None, not, Ok, On
 pub use Rattle.std.proofs.Common.{sym, take, take_at, true, true≢false, zero}
 pub use Rattle.lx_console.specs.ConsoleMeaning.{Answers, Refuses, StandsFor}
 pub use Rattle.lx_edit.specs.PlanMeaning.{IsReady, planned}
-pub use Rattle.lx_session.proofs.AnsweredLines.{allowed_some, counted_so, turn_answered, with_reply_is}
+pub use Rattle.lx_session.proofs.AnsweredLines.{allowed_some, line_answered, turn_answered, TurnAnswer, with_reply_is}
 pub use Rattle.lx_session.specs.Attempts.{after_commands}
 pub use Rattle.lx_session.specs.LineProgress.{LineProgress}
 pub use Rattle.lx_session.specs.LineReply.{counts_after, counts_in, reply_to}
@@ -36,6 +36,7 @@ pub use Rattle.lx_undo.specs.CommandProgress.{HasReached, reached}
 pub use Rattle.lx_undo.specs.Shows.{AllReady, KeptPlans, led_back, ReadyBack, ReadyForth, shows_after, shows_before}
 pub use Rattle.lx_undo.specs.UndoDeskMeaning.{seen, TakesUndoStep, UndoKept, UndoStands, UndoSteps, UndoWantsMemory}
 pub use Rattle.std.proofs.lemmas.Bool.{cases_Bool}
+pub use Rattle.std.proofs.lemmas.Result.{IfOk-weaker}
 pub use Rattle.std.specs.List.{AllByRecursion, list_any}
 pub use Rattle.std.specs.Option.{option_map_or}
 pub use Rattle.std.specs.Result.{IsOkAnd, result_err, result_unwrap_or}

@@ -1,19 +1,18 @@
 -- A line that was done, and whose reply was put, was answered.
 use Rattle.lx_undo.proofs.Imports.{◌≡◌, ℕ, Bool, true, false, Option, Some, None, Result, Ok, Err, OnOk, List, refl, sym, ap}
-use Rattle.lx_undo.proofs.Imports.{◌∙◌, subst, inl, inr, ◌-◌, IfOk, is_some, not, if◌then◌else◌, option_map_or, IsOkAnd, list_any}
-use Rattle.lx_undo.proofs.Imports.{cases_Bool, Command, Line, Memory, UndoLine, Desk, Kept, is_edit, ok_text, refused_text, line_of, Session, ends_script}
-use Rattle.lx_undo.proofs.Imports.{is_quit, DeskState, Attempt, begun, after_attempts, UndoState, undo_line_of, undo_answer, undo_answering, asked, attempted}
+use Rattle.lx_undo.proofs.Imports.{◌∙◌, subst, inl, inr, ◌-◌, is_some, if◌then◌else◌, option_map_or, IsOkAnd, list_any}
+use Rattle.lx_undo.proofs.Imports.{cases_Bool, Command, Line, Memory, UndoLine, Desk, Kept, is_edit, ok_text, refused_text, line_of, Session}
+use Rattle.lx_undo.proofs.Imports.{DeskState, begun, UndoState, undo_line_of, undo_answer, undo_answering, asked, attempted}
 use Rattle.lx_undo.proofs.Imports.{plain, after_asking, after_plain, UndoMayFail, MayFailAsked, after_commands, LineProgress, reply_to, counts_after, counts_in}
-use Rattle.lx_undo.proofs.Imports.{LineState, next_of, unattempted, IsLine, OneAnswer, StandsFor, allowed_some, turn_answered, with_reply_is}
-use Rattle.lx_undo.proofs.Imports.{counted_so as counts_so, reached, HasReached, UndoKept, UndoStands}
-use Rattle.lx_undo.proofs.Imports.{◌≢◌, IfSome}
+use Rattle.lx_undo.proofs.Imports.{LineState, next_of, unattempted, OneAnswer, StandsFor, allowed_some, line_answered, turn_answered, TurnAnswer}
+use Rattle.lx_undo.proofs.Imports.{reached, HasReached, UndoKept, UndoStands, ◌≢◌, IfSome}
 use Rattle.lx_io.specs.declared.sink.SinkFault.{SinkFault}
 use Rattle.lx_io.specs.Puts.{Puts}
 use Rattle.lx_io.specs.Told.{ToldBySink}
 use Rattle.lx_session.specs.declared.tally.Tally.{Tally}
 use Rattle.lx_session.specs.Spared.{spared}
+use Rattle.lx_session.proofs.Replies.{on_ok}
 use Rattle.lx_session.proofs.Stood.{spares}
-use Rattle.lx_undo.proofs.Lines.{goes_on}
 use Rattle.lx_undo.specs.declared.asked.Denial.{Denial}
 use Rattle.lx_undo.specs.HistoryLines.{HasAsked, denial_text, answer_text, counted_denial}
 
@@ -35,18 +34,14 @@ asked_answer : (failed : Option ℕ) (s : Session UndoState) (line : List ℕ) (
 asked_answer failed s line what is =
     ap (λ (o : Option UndoLine). option_map_or (asked failed s) o (plain failed s (line_of line))) is
 
-always_ok : {T E : Type 0} (r : Result T E) (P : Type 0) → P → OnOk r P
-always_ok (Ok x) P p = p
-always_ok (Err e) P p = tt
-
 -- what was done
 done_by : (s : UndoState) (what : UndoLine) (u : UndoKept) (r : Result UndoState (List ℕ)) → after_asking s what ≡ r
     → IsOkAnd r (λ next. UndoStands next u) → (next : UndoState) × (after_asking s what ≡ Ok next) × UndoStands next u
 done_by s what u (Ok next) is stands = (next, is, stands)
 done_by s what u (Err text) is stands = absurd stands
 
-module _ {K T : Type 0} (told : ToldBySink K) (sink sink' : K) (result : Result T SinkFault)
-    (s : Session UndoState) (line : List ℕ) (what : UndoLine) (u : UndoKept) (before after : Tally)
+module _ {K T : Type 0} {told : ToldBySink K} {sink sink' : K} {result : Result T SinkFault}
+    {s : Session UndoState} {line : List ℕ} {what : UndoLine} {u : UndoKept} (before : Tally) {after : Tally}
     (is : undo_line_of line ≡ Some what) (counted_so : s.counts ≡ counts_in before) (ample : Bool) where
   done : HasAsked s.state what None u → counts_in after ≡ counted_denial None (counts_in before)
       → Puts told sink sink' result (answer_text None)
@@ -61,7 +56,7 @@ module _ {K T : Type 0} (told : ToldBySink K) (sink sink' : K) (result : Result 
         reply = ok_text;
         text = refl;
         puts = puts;
-        counts = always_ok result _ (ap (counted_denial None) counted_so ∙ sym counts);
+        counts = on_ok result _ (ap (counted_denial None) counted_so ∙ sym counts);
       }
 
   refused : (denial : Denial) (failed : Option ℕ)
@@ -81,7 +76,7 @@ module _ {K T : Type 0} (told : ToldBySink K) (sink sink' : K) (result : Result 
     reply = denial_text denial;
     text = refl;
     puts = puts;
-    counts = always_ok result _ (ap (counted_denial (Some denial)) counted_so ∙ sym counts);
+    counts = on_ok result _ (ap (counted_denial (Some denial)) counted_so ∙ sym counts);
   }
 
   denied : (b : Bool) → ample ≡ b → (denial : Denial) → HasAsked s.state what (Some denial) u
@@ -104,58 +99,21 @@ module _ {K T : Type 0} (told : ToldBySink K) (sink sink' : K) (result : Result 
   answered_asked (Some denial) did own counts puts = denied ample refl denial did own counts puts
 
 -- Of a line that asks nothing of the history, from its attempts and the reply that was put.
-pub answered_line : {K T : Type 0} (told : ToldBySink K) (sink sink' : K) (result : Result T SinkFault)
-    (s : Session UndoState) (text : List ℕ) (meaning : Option Line) (start turn : LineState) (u : UndoKept) (console : Kept)
-    (before after : Tally) (ample : Bool) → (ample ≡ true → turn.refusal ≢ Some Memory) → start ≡ unattempted meaning → console ≡ u.console → meaning ≡ line_of text → undo_line_of text ≡ None
-    → s.counts ≡ counts_in before
+pub answered_line : {K T : Type 0} {told : ToldBySink K} {sink sink' : K} {result : Result T SinkFault}
+    {s : Session UndoState} {text : List ℕ} {meaning : Option Line} {start turn : LineState} {u : UndoKept} {console : Kept}
+    (before : Tally) {after : Tally} (ample : Bool) → (ample ≡ true → turn.refusal ≢ Some Memory) → start ≡ unattempted meaning
+    → console ≡ u.console → meaning ≡ line_of text → undo_line_of text ≡ None → s.counts ≡ counts_in before
     → LineProgress true (HasReached s.state u (start.left - turn.left)) (begun s.state.desk) start turn u.console → next_of turn ≡ None
     → ((d : Desk) → StandsFor d console → Puts told sink sink' result (reply_to d turn.meaning turn.refusal))
     → ((d : Desk) → StandsFor d console → OnOk result (counts_in after ≡ counts_after d (counts_in before) turn.meaning turn.refusal))
     → OneAnswer (spared ample undo_answering) told sink sink' result s text (λ (state : UndoState). UndoStands state u) after
-answered_line told sink sink' result s text meant start turn u console before after ample other begun_so same is none counted_so t over puts
+answered_line {told} {sink} {sink'} {result} {s} {text} {start} {turn} {u} before {after} ample other begun_so same is none counted_so t over puts
     counts =
     let heard : List Command → Type 0 = HasReached s.state u (start.left - turn.left) in
-    let meaning = line_of text in
-    let from : start ≡ unattempted meaning = begun_so ∙ ap unattempted is in
-    let a = turn_answered (ample ≡ true) true heard told sink sink' result s.counts (begun s.state.desk) meaning turn u.console before after other
-    (subst (λ (v : LineState). LineProgress true heard (begun s.state.desk) v turn u.console) from t) over counted_so
+    let a : TurnAnswer (ample ≡ true) true heard told sink sink' result s.counts (begun s.state.desk) (line_of text) u.console after =
+    turn_answered {turn = turn} {before = before} other
+    (subst (λ (v : LineState). LineProgress true heard (begun s.state.desk) v turn u.console) (begun_so ∙ ap unattempted is) t) over counted_so
     (λ d stands. puts d (subst (StandsFor d) (sym same) stands)) (λ d stands. counts d (subst (StandsFor d) (sym same) stands)) in
-    let now : Attempt = record { state = a.now; refusal = a.refusal } in
-    let r = with_reply_is s meaning now (after_plain s.state a.now) in
-    record {
-      next = after_attempts s meaning now (after_plain s.state a.now);
-      failed = a.failed;
-      goes_on = record {
-        is = plain_answer a.failed s text none ∙ ap (λ (v : Attempt). after_attempts s meaning v (after_plain s.state v.state)) a.is;
-        allowed = spares ample a.failed (UndoMayFail s.state text (undo_line_of text)) a.none
-            (allowed_some a.failed (UndoMayFail s.state text (undo_line_of text))
-            (λ failed. subst (UndoMayFail s.state text) (sym none) (a.at_edit failed refl)));
-      };
-      stands = subst (λ (x : UndoState). UndoStands x u) (sym (r.state ∙ plain_is s.state a.now a.commands a.accepted a.desk))
-          a.listened.stands;
-      reply = reply_to a.now.desk meaning a.refusal;
-      text = r.text;
-      puts = a.puts;
-      counts = counts_so result (after_attempts s meaning now (after_plain s.state a.now)).counts
-          (counts_after a.now.desk s.counts meaning a.refusal) (counts_in after) r.counts a.counts;
-    }
-
--- whether more is to come
-pub more_by : (result : Result Bool SinkFault) (meant meaning : Option Line) → meaning ≡ meant
-    → IfOk result (λ more. more ≡ not (is_quit meaning))
-    → IfOk result (λ more. (text : List ℕ) → meant ≡ line_of text → more ≡ not (ends_script text))
-more_by (Ok more) meant meaning same is = λ text line. is ∙ ap (λ (m : Option Line). not (is_quit m)) (same ∙ line)
-more_by (Err fault) meant meaning same is = tt
-
-pub more_of : (result : Result Bool SinkFault) (given : Option (List ℕ)) (meant : Option Line)
-    → IfOk result (λ more. (text : List ℕ) → meant ≡ line_of text → more ≡ not (ends_script text))
-    → ((text : List ℕ) → IsLine given text → meant ≡ line_of text)
-    → IfOk result (λ more. (text : List ℕ) → IsLine given text → more ≡ not (ends_script text))
-more_of (Ok more) given meant is means = λ text line. is text (means text line)
-more_of (Err fault) given meant is means = tt
-
-pub more_after : (result : Result Bool SinkFault) (given : Option (List ℕ)) (what : UndoLine)
-    → IfOk result (λ more. more ≡ true) → ((text : List ℕ) → IsLine given text → undo_line_of text ≡ Some what)
-    → IfOk result (λ more. (text : List ℕ) → IsLine given text → more ≡ not (ends_script text))
-more_after (Ok more) given what is asks = λ text line. is ∙ ap not (sym (goes_on text what (asks text line)))
-more_after (Err fault) given what is asks = tt
+    line_answered undo_answering ample (λ (state : UndoState). UndoStands state u) (after_plain s.state) a (plain_answer a.failed s text none)
+    (λ edit. subst (UndoMayFail s.state text) (sym none) edit)
+    (subst (λ (x : UndoState). UndoStands x u) (sym (plain_is s.state a.now a.commands a.accepted a.desk)) a.listened.stands)

@@ -1,6 +1,6 @@
-use Rattle.lx_lists.proofs.Imports.{Option, true, sym, subst, result_err, Command, Refusal, Attempted, heard_of, TicksReach}
+use Rattle.lx_lists.proofs.Imports.{Option, true, ap, sym, subst, on_err_weaker, result_err, Command, Refusal, Attempted, heard_of, TicksReach, TwoKept}
 use Rattle.lx_session.proofs.Commands.{never_wants, wants_none}
-use Rattle.lx_lists.proofs.NextAttempt.{tick_attempted, tick_reaches, first_attempted, first_reaches, other_tick, one_same, second_same}
+use Rattle.lx_lists.proofs.NextAttempt.{tick_attempted, tick_reaches, first_attempted, first_reaches, other_tick}
 use Rattle.lx_lists.proofs.attempts.attempt.Goals as goal
 
 pub returns-in-Tick-clause-first : goal.returns-in-Tick-clause-first
@@ -8,7 +8,7 @@ returns-in-Tick-clause-first g c = λ s stands.
     subst (λ (r : Option Refusal). Attempted true s.first c.args.command.now r c.tick.new.self.first) (sym c.err.ensures.value)
     (subst (λ (command : Command). Attempted true s.first command (result_err c.tick.result) c.tick.new.self.first) (sym c.in-Tick.is)
     (tick_attempted s.first c.tick.result c.args.desk.now.first c.tick.new.self.first stands.first (c.tick.ensures.first s.first stands.first)
-    (one_same c.tick.result c.args.desk.now c.tick.new.self c.tick.ensures.unchanged)))
+    (on_err_weaker c.tick.result (ap (λ (t : TwoKept). t.first)) c.tick.ensures.unchanged)))
 
 pub returns-in-Tick-clause-second : goal.returns-in-Tick-clause-second
 returns-in-Tick-clause-second g c = λ s stands.
@@ -16,7 +16,7 @@ returns-in-Tick-clause-second g c = λ s stands.
     (subst (λ (command : Command). TicksReach s.second c.tick.new.self.second (heard_of command (result_err c.tick.result))) (sym c.in-Tick.is)
     (tick_reaches s.second c.tick.result c.args.desk.now.second c.tick.new.self.second stands.second
     (c.tick.ensures.second s.second stands.second)
-    (second_same c.tick.result c.args.desk.now c.tick.new.self c.tick.ensures.unchanged)))
+    (on_err_weaker c.tick.result (ap (λ (t : TwoKept). t.second)) c.tick.ensures.unchanged)))
 
 pub returns-in-Tick-clause-memory : goal.returns-in-Tick-clause-memory
 returns-in-Tick-clause-memory g c = λ stood. never_wants c.tick.result c.err.result c.err.ensures.value c.tick.ensures.memory
@@ -33,5 +33,4 @@ returns-in_default-clause-second g c = λ s stands.
     (other_tick c.args.command.now c.in_default.not-Tick) c.first_in.ensures.other
 
 pub returns-in_default-clause-memory : goal.returns-in_default-clause-memory
-returns-in_default-clause-memory g c = λ stood. wants_none (g.H.Heap.refusals c.args.heap.now) (g.H.Heap.refusals c.first_in.new.heap)
-    c.first_in.result c.err-in_default.result c.err-in_default.ensures.value c.first_in.ensures.cause stood
+returns-in_default-clause-memory g c = λ stood. wants_none c.err-in_default.ensures.value c.first_in.ensures.cause stood

@@ -1,7 +1,8 @@
 use Rattle.lx_lists.proofs.Imports.{◌≡◌, ◌∙◌, None, refl, sym, ap, arith, LineState}
 use Rattle.lx_session.proofs.Stood.{stood_since}
 use Rattle.lx_session.proofs.ValidNext.{valid_next}
-use Rattle.lx_lists.proofs.NextAttempt.{none_yet, one_more}
+use Rattle.lx_session.proofs.AttemptSteps.{nothing_yet}
+use Rattle.lx_lists.proofs.NextAttempt.{one_more}
 use Rattle.lx_lists.proofs.attempts.attempt_all.Goals as goal
 
 pub commands-init : goal.commands-init
@@ -9,7 +10,7 @@ commands-init g c = record {
   meaning = refl;
   later = omega arith;
   memory = λ stood is. let none : c.args.turn.now.refusal ≡ None = ap (λ (t : LineState). t.refusal) c.requires.start in cc;
-  progress = λ s stands. none_yet s c.args.turn.now c.args.desk.now c.requires.start stands;
+  progress = λ s stands. nothing_yet stands.first (ap (λ (t : LineState). t.refusal) c.requires.start) stands.second;
 }
 
 pub attempt-refusal-requires : goal.attempt-refusal-requires
@@ -25,7 +26,6 @@ commands-preserved g c = record {
       (g.H.Heap.refusals c.attempt-refusal.new.heap) c.commands.invariant.later stood)
       (sym (ap (λ (t : LineState). t.refusal) c.attempted.ensures) ∙ is);
   progress = λ s stands.
-      one_more s c.args.turn.now c.commands.turn c.attempted.new.self c.in-Some.command.now c.attempt-refusal.result c.commands.desk
-      c.attempt-refusal.new.desk (sym c.in-Some.ensures) c.attempt-refusal.ensures.first c.attempt-refusal.ensures.second
+      one_more (sym c.in-Some.ensures) c.attempt-refusal.ensures.first c.attempt-refusal.ensures.second
       c.attempted.ensures (c.commands.invariant.progress s stands);
 }

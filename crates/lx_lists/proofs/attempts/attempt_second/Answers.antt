@@ -1,24 +1,24 @@
 use Rattle.lx_lists.proofs.Imports.{◌≡◌, ◌∙◌, Option, None, true, ap, sym, subst, LineState, Refusal, Attempted}
 use Rattle.lx_session.proofs.Commands.{wants_none}
-use Rattle.lx_lists.proofs.NextAttempt.{one_second, none_second, second_attempted}
+use Rattle.lx_session.proofs.AttemptSteps.{nothing_yet}
+use Rattle.lx_lists.proofs.NextAttempt.{one_second, second_attempted}
 use Rattle.lx_lists.proofs.attempts.attempt_second.Goals as goal
 
 pub returns-in-Some-clause-tried : goal.returns-in-Some-clause-tried
 returns-in-Some-clause-tried g c = λ s stands.
     let command = c.in-Some.command.now in
     let now = c.second_in.new.self in
-    one_second s c.args.turn.now c.attempted.new.self command c.err-refusal.result c.args.desk.now now c.requires.start
-    (sym c.in-Some.ensures) stands
+    one_second c.requires.start (sym c.in-Some.ensures) stands
     (λ x stand. subst (λ (r : Option Refusal). Attempted true x.second command r now.second) (sym c.err-refusal.ensures.value)
     (second_attempted x command c.second_in.result c.args.desk.now now stand (c.second_in.ensures.steps x stand) c.second_in.ensures.unchanged))
     c.second_in.ensures.other c.attempted.ensures
 
 pub returns-in_default-clause-tried : goal.returns-in_default-clause-tried
-returns-in_default-clause-tried g c = λ s stands. none_second s c.args.turn.now c.args.desk.now c.requires.start stands
+returns-in_default-clause-tried g c = λ s stands.
+    nothing_yet stands.second (ap (λ (t : LineState). t.refusal) c.requires.start) stands.first
 
 pub returns-in-Some-clause-memory : goal.returns-in-Some-clause-memory
-returns-in-Some-clause-memory g c = λ stood is. wants_none (g.H.Heap.refusals c.args.heap.now) (g.H.Heap.refusals c.second_in.new.heap)
-    c.second_in.result c.err-refusal.result c.err-refusal.ensures.value c.second_in.ensures.cause stood
+returns-in-Some-clause-memory g c = λ stood is. wants_none c.err-refusal.ensures.value c.second_in.ensures.cause stood
     (sym (ap (λ (t : LineState). t.refusal) c.attempted.ensures) ∙ is)
 
 pub returns-in_default-clause-memory : goal.returns-in_default-clause-memory

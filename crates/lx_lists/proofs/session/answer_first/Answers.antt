@@ -8,8 +8,7 @@ use Rattle.lx_lists.proofs.session.answer_first.Goals as goal
 pub returns-in-Some-clause-answered : goal.returns-in-Some-clause-answered
 returns-in-Some-clause-answered g c = λ ample stood s text stands counted is first.
     let meant = meant_by (option_copied c.args.line) c.begin-turn.result text c.begin-turn.ensures is in
-    answered_frame g.K.Sink c.args.sink.now c.put_universe.new.sink c.put_universe.result s text
-    c.args.desk.now c.args.tally.now ample c.in-Some.universe first
+    answered_frame ample c.in-Some.universe first
     (frame_is (line_of text) c.in-Some.universe (ap frame_of (sym meant) ∙ sym c.frame_universe.ensures.universe ∙ c.in-Some.is))
     stands counted (c.put_universe.ensures.text s.state stands)
 
@@ -24,12 +23,8 @@ returns-in-None-clause-answered g c = λ ample stood s text stands counted is fi
     let heard : List Command → Type 0 = TicksReach s.state.second desk.second in
     let meant = meant_by given c.begin-turn.result text c.begin-turn.ensures is in
     let from : c.begin-turn.result ≡ unattempted (line_of text) = c.begin-turn.ensures ∙ ap unattempted (meaning_is given text is) in
-    answered_first g.K.Sink c.args.sink.now c.finish_without_frame.new.sink
-    c.finish_without_frame.result s text desk c.finish_without_frame.new.tally ample first
-    (ap frame_of (sym meant) ∙ sym c.frame_universe.ensures.universe ∙ c.in-None.is)
-    (turn_answered (ample ≡ true) true heard g.K.Sink c.args.sink.now c.finish_without_frame.new.sink
-    c.finish_without_frame.result s.counts (begun s.state.first) (line_of text) c.attempt_all.new.turn desk.first c.args.tally.now
-    c.finish_without_frame.new.tally (λ is. c.attempt_all.ensures.memory (stood is))
+    answered_first ample first (ap frame_of (sym meant) ∙ sym c.frame_universe.ensures.universe ∙ c.in-None.is)
+    (turn_answered {turn = c.attempt_all.new.turn} {before = c.args.tally.now} (λ is. c.attempt_all.ensures.memory (stood is))
     (subst (λ (v : LineState). LineProgress true heard (begun s.state.first) v c.attempt_all.new.turn desk.first) from
     (c.attempt_all.ensures.tried s.state stands)) c.attempt_all.ensures.over counted
     (λ d stood. c.finish_without_frame.ensures.text d (subst (StandsFor d) (sym c.list.ensures) stood))

@@ -24,11 +24,8 @@ returns-clause-answered g c = λ ample stood s text stands counted is.
     let meaning : Option Line = second_meaning text in
     let from : c.begin_second-turn.result ≡ unattempted meaning = c.begin_second-turn.ensures
     ∙ ap (λ (rest : List ℕ). unattempted (where_of_second (line_of rest))) is.is in
-    answered_second g.K.Sink c.args.sink.now c.finish_without_frame.new.sink
-    c.finish_without_frame.result s text desk c.finish_without_frame.new.tally ample is.second
-    (turn_answered (ample ≡ true) true heard g.K.Sink c.args.sink.now c.finish_without_frame.new.sink
-    c.finish_without_frame.result s.counts (begun s.state.second) meaning c.attempt_second.new.turn desk.second c.args.tally.now
-    c.finish_without_frame.new.tally (λ is. c.attempt_second.ensures.memory (stood is))
+    answered_second ample is.second
+    (turn_answered {turn = c.attempt_second.new.turn} {before = c.args.tally.now} (λ is. c.attempt_second.ensures.memory (stood is))
     (subst (λ (v : LineState). LineProgress true heard (begun s.state.second) v c.attempt_second.new.turn desk.second) from
     (c.attempt_second.ensures.tried s.state stands)) c.attempt_second.ensures.over counted
     (λ d stood. c.finish_without_frame.ensures.text d (subst (StandsFor d) (sym c.list.ensures) stood))

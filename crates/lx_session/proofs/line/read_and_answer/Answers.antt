@@ -1,40 +1,27 @@
-use Rattle.lx_session.proofs.Imports.{rules, ◌≡◌, Some, option_copied, meaning_of, ap, sym, ◌∙◌, subst, IsAmple, SparedAnswer}
-use Rattle.lx_spec.specs.declared.Command.TheVariants as commands
+use Rattle.lx_session.proofs.Imports.{rules, Some, None, ap, sym, ◌∙◌, refl, unattempted, IsAmple, SparedAnswer, subst}
 use Rattle.lx_spec.specs.declared.Line.TheVariants as lines
-use Rattle.lx_session.proofs.AnsweredLines.{bad_line, frame_line}
+use Rattle.lx_session.proofs.AnsweredLines.{answered}
+use Rattle.lx_session.proofs.AttemptSteps.{nothing_yet}
+use Rattle.lx_session.proofs.Replies.{on_ok}
 use Rattle.lx_session.proofs.line.read_and_answer.Goals as goal
 
 pub returns-in-None-clause-answered : goal.returns-in-None-clause-answered
 returns-in-None-clause-answered g c = λ s stands counted.
-    let here = c.args.listener.now in
-    let heard = g.L.Listener.heard here here in
-    let all = g.L.Listener.admitted_all here in
-    let Ample = IsAmple all (g.H.Heap.refusals c.args.heap.now) (g.H.Heap.refusals c.args.heap.now) in
-    subst (λ m. SparedAnswer Ample all heard g.K.Sink c.args.sink.now c.give.new.sink c.give.result s m c.args.console.now c.give.new.tally)
-    c.in-None.ensures.meaning (bad_line Ample all heard g.K.Sink c.args.sink.now c.give.new.sink c.give.result s c.args.console.now
-    c.args.tally.now c.give.new.tally stands counted (g.met.L.Listener.nothing here) c.give.ensures.text c.give.ensures.counts)
+    rw (sym c.in-None.ensures.meaning) (answered {turn = unattempted None} {before = c.args.tally.now} (λ ample want. cc)
+    (nothing_yet stands refl (g.met.L.Listener.nothing c.args.listener.now)) refl counted (λ d here. c.give.ensures.text)
+    (λ d here. on_ok c.give.result _ c.give.ensures.counts))
 
 pub returns-in-Some-Frame-clause-answered : goal.returns-in-Some-Frame-clause-answered
 returns-in-Some-Frame-clause-answered g c = λ s stands counted.
-    let here = c.args.listener.now in
-    let heard = g.L.Listener.heard here here in
-    let all = g.L.Listener.admitted_all here in
-    let Ample = IsAmple all (g.H.Heap.refusals c.args.heap.now) (g.H.Heap.refusals c.args.heap.now) in
-    subst (λ m. SparedAnswer Ample all heard g.K.Sink c.args.sink.now c.put_universe.new.sink c.put_universe.result s m c.args.console.now c.args.tally.now)
-    (ap Some (sym c.in-Some-Frame.field-0-is) ∙ c.in-Some-Frame.ensures.meaning)
-    (frame_line Ample all heard g.K.Sink c.args.sink.now c.put_universe.new.sink c.put_universe.result s
-    c.in-Some-Frame.universe c.args.console.now c.args.tally.now stands counted (g.met.L.Listener.nothing here)
-    (c.put_universe.ensures.text s.state.desk stands))
+    rw (sym c.in-Some-Frame.ensures.meaning ∙ ap Some c.in-Some-Frame.field-0-is) (answered
+    {turn = unattempted (Some (lines.Frame c.in-Some-Frame.universe))} {before = c.args.tally.now} (λ ample want. cc)
+    (nothing_yet stands refl (g.met.L.Listener.nothing c.args.listener.now)) refl counted c.put_universe.ensures.text
+    (λ d here. on_ok c.put_universe.result _ refl))
 
 pub returns-in-Some-Command-Key-clause-answered : goal.returns-in-Some-Command-Key-clause-answered
 returns-in-Some-Command-Key-clause-answered g c = λ s stands counted.
-    let now = c.answer_key.new.listener in
-    let all = g.L.Listener.admitted_all now in
-    let Ample = IsAmple all (g.H.Heap.refusals c.args.heap.now) (g.H.Heap.refusals c.args.heap.now) in
     let a = c.answer_key.ensures.answered s stands counted in
-    let is = ap Some (sym (c.in-Some-Command-Key.field-0-is ∙ ap lines.Command c.in-Some-Command-Key.field-0-0-is)) ∙ c.in-Some-Command-Key.ensures.meaning in
-    subst (λ m. SparedAnswer Ample all (g.L.Listener.heard c.args.listener.now now) g.K.Sink c.args.sink.now c.answer_key.new.sink
-    c.answer_key.result s m c.answer_key.new.console c.answer_key.new.tally) is
+    rw (sym c.in-Some-Command-Key.ensures.meaning ∙ ap Some (c.in-Some-Command-Key.field-0-is ∙ ap lines.Command c.in-Some-Command-Key.field-0-0-is))
     (record { answer = a.answer; none = λ ample. a.none ample.admitted })
 
 pub returns-in-Some-clause-answered : goal.returns-in-Some-clause-answered

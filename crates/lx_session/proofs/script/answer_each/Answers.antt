@@ -1,16 +1,16 @@
-use Rattle.lx_session.proofs.Imports.{◌≡◌, false, true, Ok, IfSome, ap, subst, arith, refl, ◌∙◌, unread, LineOutcome, ScriptAnswered, KeepsLimit, spared}
+use Rattle.lx_session.proofs.Imports.{false, IfSome, ap, arith, refl, ◌∙◌, unread, ScriptAnswered, KeepsLimit, spared}
 use Rattle.lx_session.proofs.SoFar.{so_far_none, so_far_more, passed_none, passed_more, fits}
-use Rattle.lx_session.proofs.ScriptEnds.{so_far_ends, so_far_fails, fails_by_limit, through}
+use Rattle.lx_session.proofs.ReplyOutcomes.{through}
+use Rattle.lx_session.proofs.ScriptEnds.{so_far_ends, so_far_fails, fails_by_limit}
 use Rattle.lx_session.proofs.Stood.{take_none, take_since, take_until}
 use Rattle.lx_session.proofs.script.answer_each.Goals as goal
 
 pub script-init : goal.script-init
 script-init g c = record {
   keeps = c.requires.keeps;
-  passed = passed_none _ _ c.requires.going;
+  passed = passed_none c.requires.going;
   later = omega arith;
-  so_far = λ all ample may since state stands. so_far_none _ (λ s. g.A.AnswersBeside.stands since all s c.args.answerer.now c.args.lent.now) _ _ state _ _
-      c.requires.going stands c.new-tally.ensures;
+  so_far = λ all ample may since state stands. so_far_none c.requires.going stands c.new-tally.ensures;
   few = record {
     ok = let e = ap (λ t. t.ok) c.new-tally.ensures in omega (arith, e);
     refused = let e = ap (λ t. t.refused) c.new-tally.ensures in omega (arith, e);
@@ -24,26 +24,16 @@ pub script-preserved : goal.script-preserved
 script-preserved g c =
     let i = c.script.invariant in
     let e = c.take_line.ensures in
-    let stood : g.A.AnswersBeside.Since → (g.A.AnswersBeside.by false).State → Type 0 = λ since s. g.A.AnswersBeside.stands since false s c.script.answerer c.script.lent in
-    let stands : g.A.AnswersBeside.Since → (g.A.AnswersBeside.by false).State → Type 0 = λ since s. g.A.AnswersBeside.stands since false s c.take_line.new.answerer c.take_line.new.lent in
-    let o = subst (λ b. LineOutcome (spared false (g.A.AnswersBeside.by false)) stood stands g.S.Source
-    c.script.lines c.take_line.new.lines (g.K.Sink.holds c.script.sink) (g.K.Sink.holds c.take_line.new.sink) c.script.tally
-    c.take_line.new.tally (Ok b)) c.if-branch.true (c.in_ok-take_line.ensures.outcome false false (take_none _ _ _)) in
+    let o = rw c.if-branch.true at (c.in_ok-take_line.ensures.outcome false false take_none) in
     let number = o.0.handed.number in
     record {
       keeps = e.keeps;
-      passed = passed_more g.S.Source c.args.lines.now c.script.lines c.take_line.new.lines i.passed o.0;
+      passed = passed_more i.passed o.0;
       later = omega (arith, i.later, e.later);
       so_far = λ all ample may since state stood_at.
-          let stood : g.A.AnswersBeside.Since → (g.A.AnswersBeside.by all).State → Type 0 = λ since s. g.A.AnswersBeside.stands since all s c.script.answerer c.script.lent in
-          let stands : g.A.AnswersBeside.Since → (g.A.AnswersBeside.by all).State → Type 0 = λ since s. g.A.AnswersBeside.stands since all s c.take_line.new.answerer c.take_line.new.lent in
-          let o = subst (λ b. LineOutcome (spared ample (g.A.AnswersBeside.by all)) stood stands g.S.Source
-          c.script.lines c.take_line.new.lines (g.K.Sink.holds c.script.sink) (g.K.Sink.holds c.take_line.new.sink) c.script.tally
-          c.take_line.new.tally (Ok b)) c.if-branch.true (c.in_ok-take_line.ensures.outcome all ample (take_since all ample (g.A.AnswersBeside.admitted_all c.take_line.new.answerer) (g.H.Heap.refusals c.args.heap.now) (g.H.Heap.refusals c.script.heap) (g.H.Heap.refusals c.take_line.new.heap) c.script.invariant.later may)) in
-          let s = i.so_far all ample (take_until all ample (g.A.AnswersBeside.admitted_all c.script.answerer) (g.A.AnswersBeside.admitted_all c.take_line.new.answerer) (g.H.Heap.refusals c.args.heap.now) (g.H.Heap.refusals c.script.heap) (g.H.Heap.refusals c.take_line.new.heap) c.take_line.ensures.all c.take_line.ensures.later may) since state stood_at in
-          so_far_more _ (stood since) (stands since) g.S.Source c.args.lines.now c.script.lines c.take_line.new.lines state
-          c.script.tally c.take_line.new.tally (g.K.Sink.holds c.args.sink.now) (g.K.Sink.holds c.script.sink)
-          (g.K.Sink.holds c.take_line.new.sink) s (o.1 since s.now s.stands s.counts);
+          let o = rw c.if-branch.true at (c.in_ok-take_line.ensures.outcome all ample (take_since i.later may)) in
+          let s = i.so_far all ample (take_until e.all e.later may) since state stood_at in
+          so_far_more s (o.1 since s.now s.stands s.counts);
       few = record {
         ok = omega (arith, number, i.few.ok, e.more.ok);
         refused = omega (arith, number, i.few.refused, e.more.refused);
@@ -61,10 +51,9 @@ returns-in_err-take_line-clause-outcome g c = λ all ample may since state stood
     (λ bytes. ScriptAnswered (spared ample (g.A.AnswersBeside.by all)) (stands since) state c.args.lines.now.taken bytes
     (unread g.S.Source c.take_line.new.lines) (g.S.Source.left c.take_line.new.lines.source.now) (g.K.Sink.holds c.args.sink.now)
     (g.K.Sink.holds c.take_line.new.sink) r)) c.from_residual.result c.in_err-take_line.field-0.0 c.from_residual.ensures
-    (so_far_fails _ stood stands since g.S.Source c.args.lines.now c.script.lines c.take_line.new.lines state
-    c.script.tally c.take_line.new.tally (g.K.Sink.holds c.args.sink.now) (g.K.Sink.holds c.script.sink)
-    (g.K.Sink.holds c.take_line.new.sink) c.in_err-take_line.field-0.0 (c.script.invariant.so_far all ample (take_until all ample (g.A.AnswersBeside.admitted_all c.script.answerer) (g.A.AnswersBeside.admitted_all c.take_line.new.answerer) (g.H.Heap.refusals c.args.heap.now) (g.H.Heap.refusals c.script.heap) (g.H.Heap.refusals c.take_line.new.heap) c.take_line.ensures.all c.take_line.ensures.later may) since state stood_at)
-    (c.in_err-take_line.ensures.outcome all ample (take_since all ample (g.A.AnswersBeside.admitted_all c.take_line.new.answerer) (g.H.Heap.refusals c.args.heap.now) (g.H.Heap.refusals c.script.heap) (g.H.Heap.refusals c.take_line.new.heap) c.script.invariant.later may)))
+    (so_far_fails stood stands since c.take_line.new.lines c.take_line.new.tally (g.K.Sink.holds c.take_line.new.sink) c.in_err-take_line.field-0.0
+    (c.script.invariant.so_far all ample (take_until c.take_line.ensures.all c.take_line.ensures.later may) since state stood_at)
+    (c.in_err-take_line.ensures.outcome all ample (take_since c.script.invariant.later may)))
 
 pub returns-in_err-take_line-clause-limit : goal.returns-in_err-take_line-clause-limit
 returns-in_err-take_line-clause-limit g c =
@@ -74,36 +63,23 @@ returns-in_err-take_line-clause-limit g c =
     (λ since s. g.A.AnswersBeside.stands since false s c.take_line.new.answerer c.take_line.new.lent) g.S.Source c.args.lines.now
     c.script.lines c.take_line.new.lines c.script.tally c.take_line.new.tally (g.K.Sink.holds c.script.sink)
     (g.K.Sink.holds c.take_line.new.sink) c.in_err-take_line.field-0.0 c.script.invariant.passed
-    (c.in_err-take_line.ensures.outcome false false (take_none _ _ _)))
+    (c.in_err-take_line.ensures.outcome false false take_none))
 
 pub returns-clause-outcome : goal.returns-clause-outcome
 returns-clause-outcome g c = λ all ample may since state stood_at.
-    let stood : g.A.AnswersBeside.Since → (g.A.AnswersBeside.by all).State → Type 0 = λ since s. g.A.AnswersBeside.stands since all s c.script.answerer c.script.lent in
-    let stands : g.A.AnswersBeside.Since → (g.A.AnswersBeside.by all).State → Type 0 = λ since s. g.A.AnswersBeside.stands since all s c.take_line.new.answerer c.take_line.new.lent in
-    let o = subst (λ b. LineOutcome (spared ample (g.A.AnswersBeside.by all)) stood stands g.S.Source
-    c.script.lines c.take_line.new.lines (g.K.Sink.holds c.script.sink) (g.K.Sink.holds c.take_line.new.sink) c.script.tally
-    c.take_line.new.tally (Ok b)) c.if-branch.false (c.in_ok-take_line.ensures.outcome all ample (take_since all ample (g.A.AnswersBeside.admitted_all c.take_line.new.answerer) (g.H.Heap.refusals c.args.heap.now) (g.H.Heap.refusals c.script.heap) (g.H.Heap.refusals c.take_line.new.heap) c.script.invariant.later may)) in
-    let s = c.script.invariant.so_far all ample (take_until all ample (g.A.AnswersBeside.admitted_all c.script.answerer) (g.A.AnswersBeside.admitted_all c.take_line.new.answerer) (g.H.Heap.refusals c.args.heap.now) (g.H.Heap.refusals c.script.heap) (g.H.Heap.refusals c.take_line.new.heap) c.take_line.ensures.all c.take_line.ensures.later may) since state stood_at in
-    so_far_ends _ (stood since) (stands since) g.S.Source c.args.lines.now c.script.lines c.take_line.new.lines state
-    c.script.tally c.take_line.new.tally (g.K.Sink.holds c.args.sink.now) (g.K.Sink.holds c.script.sink)
-    (g.K.Sink.holds c.take_line.new.sink) s (o.1 since s.now s.stands s.counts) o.0
+    let o = rw c.if-branch.false at (c.in_ok-take_line.ensures.outcome all ample (take_since c.script.invariant.later may)) in
+    let s = c.script.invariant.so_far all ample (take_until c.take_line.ensures.all c.take_line.ensures.later may) since state stood_at in
+    so_far_ends s (λ s. g.A.AnswersBeside.stands since all s c.take_line.new.answerer c.take_line.new.lent) c.take_line.new.lines
+    (g.K.Sink.holds c.take_line.new.sink) (o.1 since s.now s.stands s.counts) o.0
 
 pub returns-clause-limit : goal.returns-clause-limit
 returns-clause-limit g c =
-    let o = subst (λ b. LineOutcome (spared false (g.A.AnswersBeside.by false))
-    (λ since s. g.A.AnswersBeside.stands since false s c.script.answerer c.script.lent)
-    (λ since s. g.A.AnswersBeside.stands since false s c.take_line.new.answerer c.take_line.new.lent) g.S.Source
-    c.script.lines c.take_line.new.lines (g.K.Sink.holds c.script.sink) (g.K.Sink.holds c.take_line.new.sink) c.script.tally
-    c.take_line.new.tally (Ok b)) c.if-branch.false (c.in_ok-take_line.ensures.outcome false false (take_none _ _ _)) in
+    let o = rw c.if-branch.false at (c.in_ok-take_line.ensures.outcome false false take_none) in
     fits g.S.Source c.args.lines.now c.script.lines c.take_line.new.lines c.script.invariant.passed o.0
 
 pub script-smaller : goal.script-smaller
 script-smaller g c =
-    let o = subst (λ b. LineOutcome (spared false (g.A.AnswersBeside.by false))
-    (λ since s. g.A.AnswersBeside.stands since false s c.script.answerer c.script.lent)
-    (λ since s. g.A.AnswersBeside.stands since false s c.take_line.new.answerer c.take_line.new.lent) g.S.Source
-    c.script.lines c.take_line.new.lines (g.K.Sink.holds c.script.sink) (g.K.Sink.holds c.take_line.new.sink) c.script.tally
-    c.take_line.new.tally (Ok b)) c.if-branch.true (c.in_ok-take_line.ensures.outcome false false (take_none _ _ _)) in
+    let o = rw c.if-branch.true at (c.in_ok-take_line.ensures.outcome false false take_none) in
     let number = o.0.handed.number in
     let within = c.take_line.new.lines.fewer o.0.handed.going in
     omega (arith, number, c.take_line.new.lines.counted, within)

@@ -1,4 +1,4 @@
-use Rattle.lx_session.proofs.Imports.{◌≡◌, ◌≤◌, ◌-◌, Bool, true, INPUT_BYTES, IsUpTo, MayTake, spared}
+use Rattle.lx_session.proofs.Imports.{◌≡◌, ◌≤◌, ◌-◌, Bool, INPUT_BYTES, IsUpTo, MayTake, spared}
 use Rattle.lx_session.proofs.SoFar.{SoFar, Passed}
 use Rattle.lx_session.proofs.script.answer_each.Given as goal
 

@@ -12,5 +12,4 @@ pub returns-then-not-admitted-clause-memory : goal.returns-then-not-admitted-cla
 returns-then-not-admitted-clause-memory g c = λ ample. not_admitted c.args.admitted c.if-not-admitted.true ample.admitted
 
 pub returns-clause-memory : goal.returns-clause-memory
-returns-clause-memory g c = λ ample. wants_none (g.H.Heap.refusals c.args.heap.now) (g.H.Heap.refusals c.command_in.new.heap)
-    c.command_in.result c.err.result c.err.ensures.value c.command_in.ensures.cause ample.stood
+returns-clause-memory g c = λ ample. wants_none c.err.ensures.value c.command_in.ensures.cause ample.stood

@@ -3,7 +3,6 @@ use Rattle.lx_undo.proofs.session.answer_asked.Goals as goal
 
 pub returns-clause-answered : goal.returns-clause-answered
 returns-clause-answered g c = λ ample stood s text stands counted is.
-    answered_asked g.K.Sink c.args.sink.now c.give.new.sink c.give.result s text c.args.what
-    c.ask-denial.new.desk c.args.tally.now c.give.new.tally is counted ample c.ask-denial.result (c.ask-denial.ensures.asked s.state stands)
+    answered_asked c.args.tally.now is counted ample c.ask-denial.result (c.ask-denial.ensures.asked s.state stands)
     (λ is_ample. c.ask-denial.ensures.own (stood is_ample) s.state stands)
     c.give.ensures.counts c.give.ensures.text

@@ -1,5 +1,5 @@
-use Rattle.lx_undo.proofs.Imports.{◌∙◌, ap, sym, IfSome, subst, ValidLine, LineState, unattempted}
-use Rattle.lx_undo.proofs.LineAnswers.{answered_line, more_by}
+use Rattle.lx_undo.proofs.Imports.{◌∙◌, ap, not, sym, IfSome, IfOk-weaker, subst, Option, Line, is_quit, ValidLine, LineState, unattempted}
+use Rattle.lx_undo.proofs.LineAnswers.{answered_line}
 use Rattle.lx_undo.proofs.session.answer_plain.Goals as goal
 
 pub attempt_all-requires-clause-start : goal.attempt_all-requires-clause-start
@@ -11,12 +11,10 @@ attempt_all-requires-clause-valid g c =
 
 pub returns-clause-answered : goal.returns-clause-answered
 returns-clause-answered g c = λ ample stood s text stands counted is none.
-    answered_line g.K.Sink c.args.sink.now c.finish.new.sink c.finish.result s text
-    c.args.meaning c.of-turn.result c.attempt_all.new.turn c.attempt_all.new.desk c.console.result.now c.args.tally.now
-    c.finish.new.tally ample (λ is_ample. c.attempt_all.ensures.memory (stood is_ample)) c.of-turn.ensures c.console.ensures is none counted (c.attempt_all.ensures.tried s.state stands)
+    answered_line c.args.tally.now ample (λ is_ample. c.attempt_all.ensures.memory (stood is_ample)) c.of-turn.ensures c.console.ensures is none counted (c.attempt_all.ensures.tried s.state stands)
     c.attempt_all.ensures.over c.finish.ensures.text c.finish.ensures.counts
 
 pub returns-clause-quit : goal.returns-clause-quit
 returns-clause-quit g c =
-    more_by c.finish.result c.args.meaning c.attempt_all.new.turn.meaning
-    (c.attempt_all.ensures.meaning ∙ ap (λ (t : LineState). t.meaning) c.of-turn.ensures) c.finish.ensures.quit
+    let same = c.attempt_all.ensures.meaning ∙ ap (λ (t : LineState). t.meaning) c.of-turn.ensures in
+    IfOk-weaker c.finish.result _ _ (λ more is text line. is ∙ ap (λ (m : Option Line). not (is_quit m)) (same ∙ line)) c.finish.ensures.quit

@@ -2,7 +2,8 @@ use Rattle.lx_undo.proofs.Imports.{◌≡◌, ◌-◌, ◌∙◌, arith, None, O
 use Rattle.lx_session.proofs.Commands.{wants_none}
 use Rattle.lx_session.proofs.Stood.{stood_since}
 use Rattle.lx_session.proofs.ValidNext.{valid_next}
-use Rattle.lx_undo.proofs.LineProgress.{none_yet, one_more}
+use Rattle.lx_session.proofs.AttemptSteps.{nothing_yet}
+use Rattle.lx_undo.proofs.LineProgress.{one_more}
 use Rattle.lx_undo.proofs.session.attempt_all.Goals as goal
 
 pub commands-init : goal.commands-init
@@ -10,7 +11,8 @@ commands-init g c = record {
   meaning = refl;
   later = omega arith;
   memory = λ stood is. let none : c.args.turn.now.refusal ≡ None = ap (λ (t : LineState). t.refusal) c.requires.start in cc;
-  progress = λ s stands. none_yet s c.args.turn.now c.args.desk.now c.requires.start stands;
+  progress = λ s stands.
+      nothing_yet stands.desk (ap (λ (t : LineState). t.refusal) c.requires.start) (record { few = omega arith; stands = stands });
 }
 
 pub command_in-requires : goal.command_in-requires
@@ -21,13 +23,11 @@ pub commands-preserved : goal.commands-preserved
 commands-preserved g c = record {
   meaning = ap (λ (t : LineState). t.meaning) c.attempted.ensures ∙ c.commands.invariant.meaning;
   later = omega (arith, c.commands.invariant.later, c.command_in.ensures.cause.later);
-  memory = λ stood is. wants_none (g.H.Heap.refusals c.commands.heap) (g.H.Heap.refusals c.command_in.new.heap) c.command_in.result
-      c.err-refusal.result c.err-refusal.ensures.value c.command_in.ensures.cause
+  memory = λ stood is. wants_none c.err-refusal.ensures.value c.command_in.ensures.cause
       (stood_since (g.H.Heap.refusals c.args.heap.now) (g.H.Heap.refusals c.commands.heap) (g.H.Heap.refusals c.command_in.new.heap)
       c.commands.invariant.later stood) (sym (ap (λ (t : LineState). t.refusal) c.attempted.ensures) ∙ is);
   progress = λ s stands.
-      one_more s c.args.turn.now c.commands.turn c.attempted.new.self c.in-Some.command.now c.commands.desk c.command_in.new.self
-      c.command_in.result c.requires.start (sym c.in-Some.ensures) c.command_in.ensures.steps c.command_in.ensures.unchanged
+      one_more c.command_in.result c.requires.start (sym c.in-Some.ensures) c.command_in.ensures.steps c.command_in.ensures.unchanged
       (c.attempted.ensures
       ∙ ap (λ (r : Option Refusal). record c.commands.turn { left = c.commands.turn.left - 1; refusal = r }) c.err-refusal.ensures.value)
       (c.commands.invariant.progress s stands);

@@ -1,5 +1,5 @@
-use Rattle.lx_lists.proofs.Imports.{option_copied}
-use Rattle.lx_lists.proofs.LineAnswers.{second_quits}
+use Rattle.lx_lists.proofs.Imports.{◌∙◌, IfOk-weaker, ap, not, sym}
+use Rattle.lx_lists.proofs.SecondLines.{goes_on}
 use Rattle.lx_lists.proofs.TwoAnswers.{two_lawful}
 use Rattle.lx_lists.proofs.session.TwoListsAnswers.answer_in.Goals as goal
 
@@ -9,7 +9,8 @@ returns-in-Some-clause-answered g c = λ ample stood s text stands counted is.
 
 pub returns-in-Some-clause-quit : goal.returns-in-Some-clause-quit
 returns-in-Some-clause-quit g c =
-    second_quits c.answer_second.result (option_copied c.args.line) c.in-Some.rest.now c.answer_second.ensures.more c.in-Some.ensures.second
+    IfOk-weaker c.answer_second.result _ _ (λ more is text line. is ∙ sym (ap not (goes_on text (c.in-Some.ensures.second text line).second)))
+    c.answer_second.ensures.more
 
 pub returns-in-Some-clause-lawful : goal.returns-in-Some-clause-lawful
 returns-in-Some-clause-lawful g c = two_lawful

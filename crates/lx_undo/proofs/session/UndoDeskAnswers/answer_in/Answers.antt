@@ -1,6 +1,6 @@
-use Rattle.lx_undo.proofs.Imports.{option_copied}
+use Rattle.lx_undo.proofs.Imports.{◌∙◌, IfOk-weaker, ap, not, sym}
 use Rattle.lx_undo.proofs.Lawful.{undo_lawful}
-use Rattle.lx_undo.proofs.LineAnswers.{more_of, more_after}
+use Rattle.lx_undo.proofs.Lines.{goes_on}
 use Rattle.lx_undo.proofs.session.UndoDeskAnswers.answer_in.Goals as goal
 
 pub returns-in-OfHistory-clause-answered : goal.returns-in-OfHistory-clause-answered
@@ -9,8 +9,9 @@ returns-in-OfHistory-clause-answered g c = λ ample stood s text stands counted 
 
 pub returns-in-OfHistory-clause-quit : goal.returns-in-OfHistory-clause-quit
 returns-in-OfHistory-clause-quit g c =
-    more_after c.answer_asked.result (option_copied c.args.line) c.in-OfHistory.what c.answer_asked.ensures.more
-    (λ text is. (c.in-OfHistory.ensures.meaning text is).0)
+    IfOk-weaker c.answer_asked.result _ _
+    (λ more is text line. is ∙ ap not (sym (goes_on text c.in-OfHistory.what (c.in-OfHistory.ensures.meaning text line).0)))
+    c.answer_asked.ensures.more
 
 pub returns-in-OfHistory-clause-lawful : goal.returns-in-OfHistory-clause-lawful
 returns-in-OfHistory-clause-lawful g c = undo_lawful
@@ -22,8 +23,7 @@ returns-in-OfDesk-clause-answered g c = λ ample stood s text stands counted is.
 
 pub returns-in-OfDesk-clause-quit : goal.returns-in-OfDesk-clause-quit
 returns-in-OfDesk-clause-quit g c =
-    more_of c.answer_plain.result (option_copied c.args.line) c.in-OfDesk.meaning c.answer_plain.ensures.quit
-    (λ text is. (c.in-OfDesk.ensures.meaning text is).1)
+    IfOk-weaker c.answer_plain.result _ _ (λ more is text line. is text (c.in-OfDesk.ensures.meaning text line).1) c.answer_plain.ensures.quit
 
 pub returns-in-OfDesk-clause-lawful : goal.returns-in-OfDesk-clause-lawful
 returns-in-OfDesk-clause-lawful g c = undo_lawful
