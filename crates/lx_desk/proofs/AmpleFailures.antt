@@ -14,12 +14,10 @@ none_failed by (Some k ∷ failures) s (line ∷ script) allowed = absurd allowe
 -- what is allowed of all lines is so of the first
 first_allowed : (by : Answering (List ℕ)) (failures : List (Option ℕ)) (s : Session by.State) (script : List (List ℕ)) (n : ℕ)
     → AreAllowed by failures s script → AreAllowed by failures s (take n script)
-first_allowed by [] s script n allowed = tt
 first_allowed by (failed ∷ failures) s [] zero allowed = tt
-first_allowed by (failed ∷ failures) s [] (suc n) allowed = tt
-first_allowed by (failed ∷ failures) s (line ∷ script) zero allowed = tt
 first_allowed by (failed ∷ failures) s (line ∷ script) (suc n) allowed =
     (allowed.0, first_allowed by failures (by.answer failed s line) script n allowed.1)
+first_allowed by failures s script n allowed = tt
 
 -- The session of a script is that in which these attempts failed.
 pub record FailedSo (ample : Bool) (by : Answering (List ℕ)) (state : by.State) (script : List (List ℕ)) (failures : List (Option ℕ))

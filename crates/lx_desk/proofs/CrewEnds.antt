@@ -5,37 +5,22 @@ use Rattle.lx_desk.proofs.Imports.{over_show, fault_text, Reading, reads, lines_
 use Rattle.lx_desk.proofs.Imports.{WritesPrefix, RefusedBy, EndsJob, HasEnded, ServesOrWants, ServesNone, HasCrewEnded, WritesFirstLines, WritesCrewFront}
 use Rattle.lx_desk.proofs.Imports.{Bool, false, HasCauseOf, OperatorFailed, HasCrewCause, ToldBySource}
 use Rattle.lx_desk.specs.declared.desk.Status.TheVariants as status
-use Rattle.lx_desk.proofs.Inputs.{Says, IsOfShow, nothing_of_cut, means_of, told_fits, front_nothing, refusal_isnt_ok, if_known, both_known}
+use Rattle.lx_desk.proofs.EmptyPrefixes.{unwritten_as}
+use Rattle.lx_desk.proofs.Inputs.{Says, IsOfShow, of_show, means_of, told_fits, front_nothing, refusal_isnt_ok, if_known, both_known}
 use Rattle.lx_desk.proofs.Endings.{refusal_ends, refusal_ended}
 use Rattle.lx_desk.proofs.CrewRuns.{no_lines}
 
 -- Of a show whose levels are read in this form, for this many operators.
 module _ (form : Form) (count : ℕ) where
   crew_tells : IsOfShow form (Crew count form) (λ reading. [])
-  crew_tells = record {
-    over = record {
-      show = λ x. refl;
-      nothing = λ x. tt;
-      refusal = λ x fault text. ap (λ r. over_show r (λ reading. [])) text;
-      wanted = λ x fault text. refl;
-      longer = λ x n h. first_lines-longer (n + 1) (lines_read (lines_of x)) x h;
-      cut = λ ample x left h i none short. nothing_of_cut form x left h i none short;
-    };
-    output = λ x. refl;
-    bytes = λ x. refl;
-  }
-
-  -- a prefix of the line that a refused show has, where nothing was written
-  nothing_told : (x : List ℕ) (h h' : Option (List ℕ)) → h' ≡ h → WritesPrefix (Crew count form) x h h'
-  nothing_told x h h' kept = subst (λ (v : Option (List ℕ)). WritesPrefix (Crew count form) x h v) (sym kept)
-      (record { failures = []; allows = tt; text = front_nothing h (output_of (Crew count form) x []) })
+  crew_tells = of_show form (Crew count form) (λ reading. []) (λ x. refl) (λ x. refl) (λ x. refl) (λ ample x left h cut. cut)
 
   wanting : {S : Type 0} (x : List ℕ) (rest h h' : Option (List ℕ)) (operators operators' : List (Option S)) (s : Status)
       → s ≡ status.Memory → h' ≡ h → operators' ≡ operators → ServesNone count form x rest operators operators' h h' s
   wanting x rest h h' operators operators' s memory kept same = record {
     isnt_ok = λ ok. let bad : status.Memory ≡ status.Ok = sym memory ∙ ok in absurd cc;
     isnt_live = λ live. let bad : status.Memory ≡ status.Live = sym memory ∙ live in absurd cc;
-    ended = subst (λ (t : Status). HasEnded t (Crew count form) x rest h h') (sym memory) (nothing_told x h h' kept);
+    ended = subst (λ (t : Status). HasEnded t (Crew count form) x rest h h') (sym memory) (unwritten_as false (Crew count form) x h h' kept);
     untouched = same;
   }
 
@@ -103,21 +88,13 @@ pub served_cause : {S : Type 0} (told : ToldBySource S) (s : Status) (reads read
     → HasCrewCause told s reads reads' writes writes' count operators operators'
 served_cause told status.ReadFault reads reads' writes writes' count operators operators' kept read write = inr (kept, read refl)
 served_cause told status.WriteFault reads reads' writes writes' count operators operators' kept read write = (write refl, kept)
-served_cause told status.Ok reads reads' writes writes' count operators operators' kept read write = tt
-served_cause told status.ShowRefused reads reads' writes writes' count operators operators' kept read write = tt
-served_cause told status.Usage reads reads' writes writes' count operators operators' kept read write = tt
 served_cause told status.Memory reads reads' writes writes' count operators operators' kept read write = kept
 served_cause told status.InputTooLong reads reads' writes writes' count operators operators' kept read write = kept
-served_cause told status.Live reads reads' writes writes' count operators operators' kept read write = tt
+served_cause told s reads reads' writes writes' count operators operators' kept read write = tt
 
 -- and where it wasn't, as another job has it
 pub refused_cause : {S : Type 0} (told : ToldBySource S) (s : Status) (reads reads' writes writes' count : ℕ) (operators : List (Option S))
     → HasCauseOf s reads reads' writes writes' → HasCrewCause told s reads reads' writes writes' count operators operators
 refused_cause told status.ReadFault reads reads' writes writes' count operators c = inl (c.0, refl)
-refused_cause told status.WriteFault reads reads' writes writes' count operators c = c
 refused_cause told status.InputTooLong reads reads' writes writes' count operators c = c.0
-refused_cause told status.Memory reads reads' writes writes' count operators c = c
-refused_cause told status.Ok reads reads' writes writes' count operators c = tt
-refused_cause told status.ShowRefused reads reads' writes writes' count operators c = tt
-refused_cause told status.Usage reads reads' writes writes' count operators c = tt
-refused_cause told status.Live reads reads' writes writes' count operators c = tt
+refused_cause told s reads reads' writes writes' count operators c = c

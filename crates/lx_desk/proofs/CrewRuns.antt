@@ -4,7 +4,7 @@ use Rattle.lx_desk.proofs.Imports.{List, [], ◌∷◌, ◌++◌, length, take, 
 use Rattle.lx_desk.proofs.Imports.{length-append, length-drop, take-append-drop, AllByRecursion, position_or_len, same_Some, slice_get_within, SinkFault, Rose}
 use Rattle.lx_desk.proofs.Imports.{AppendsFront, lines_of, Show, opened, Kept, ends_script, lines_wanted, Tally, OperatorFault, EachAt, Status, IsLowest}
 use Rattle.lx_desk.proofs.Imports.{WritesTranscript, WritesLines, Serves, WritesFirstLines, KeepsPlaces, OperatorFailed, TellsOperators, TellsCrew, Finishes}
-use Rattle.lx_desk.proofs.Imports.{Bool, HandsOn, HasWanted, TakesNoneOrWants, WantsCrew, WantsMemory, ToldBySink, ToldBySource}
+use Rattle.lx_desk.proofs.Imports.{◌⊎◌, ByMemory, ServesOver, stood_since, Bool, EndsScript, HandsOn, HasWanted, TakesNoneOrWants, WantsCrew, WantsMemory, ToldBySink, ToldBySource}
 use Rattle.std.specs.Io.KnownBytes.{Appends}
 use Rattle.std.proofs.KnownBytes.{Appends-nil}
 use Rattle.lx_io.specs.declared.sink.SinkFault.TheVariants as sinks
@@ -63,11 +63,6 @@ kept_places count operators operators' same full = record {
   others = ap (drop count) same;
 }
 
-pub joined : {S : Type 0} (count : ℕ) (operators used used' rest : List (Option S)) → used' ≡ used → used ≡ take count operators
-    → rest ≡ drop count operators → used' ++ rest ≡ operators
-joined count operators used used' rest same is behind =
-    ap (λ l. l ++ rest) (same ∙ is) ∙ (ap (λ l. take count operators ++ l) behind ∙ take-append-drop count operators)
-
 -- what the crew wrote, by the status
 transcript : (ample : Bool) (show : Show) (lines : ℕ → List (List ℕ)) (held held' : Option (List ℕ)) (console : Kept) (tally : Tally)
     → WholeTranscript ample (opened show) lines held held' console tally → WritesTranscript ample show lines held held'
@@ -83,11 +78,7 @@ written_by ample show lines held held' console tally None told status.ReadFault 
     (transcript ample show lines held held' console tally w, tells)
 written_by ample show lines held held' console tally None told status.InputTooLong w tells =
     (transcript ample show lines held held' console tally w, tells)
-written_by ample show lines held held' console tally None told status.WriteFault w tells = absurd tells
-written_by ample show lines held held' console tally None told status.Memory w tells = absurd tells
-written_by ample show lines held held' console tally None told status.ShowRefused w tells = absurd tells
-written_by ample show lines held held' console tally None told status.Usage w tells = absurd tells
-written_by ample show lines held held' console tally None told status.Live w tells = absurd tells
+written_by ample show lines held held' console tally None told s w tells = absurd tells
 written_by ample show lines held held' console tally (Some sinks.Failed) told s w tells =
     subst (λ (t : Status). WritesLines ample t show lines told held held') (sym tells) w.prefix
 written_by ample show lines held held' console tally (Some sinks.Memory) told s w tells =
@@ -119,7 +110,7 @@ module _ {S K : Type 0} (ample : Bool) (told_in : ToldBySource S) (told_out : To
         ended = b.ended;
       }
 
-  pub serves : (s : Status) → TellsCrew output told s
+  serves : (s : Status) → TellsCrew output told s
       → Serves ample told_in show count operators (used' ++ rest) (told_out.holds sink) (told_out.holds sink') s
   serves s tells = record {
     lines = h.lines;
@@ -137,7 +128,7 @@ module _ {S K : Type 0} (ample : Bool) (told_in : ToldBySource S) (told_out : To
       let b = h.each k from.0 from.1 in
       subst (λ (o : Option S). IsSome o) (same_Some (Some b.source) source (sym b.place_is ∙ at)) refl
 
-  pub keeps_places : EachAt (λ k source. IsSome source) operators → count ≤ length operators → KeepsPlaces count operators (used' ++ rest)
+  keeps_places : EachAt (λ k source. IsSome source) operators → count ≤ length operators → KeepsPlaces count operators (used' ++ rest)
   keeps_places full most = record {
     same_places =
         omega (arith, most, length-append used' rest, same_count, ap length behind, length-drop count operators);
@@ -147,7 +138,7 @@ module _ {S K : Type 0} (ample : Bool) (told_in : ToldBySource S) (told_out : To
     others = drop_at used' rest count same_count ∙ behind;
   }
 
-  pub operator_failed : EachAt (λ k source. IsSome source) operators → count ≤ length operators → (s : Status) → TellsCrew output told s
+  operator_failed : EachAt (λ k source. IsSome source) operators → count ≤ length operators → (s : Status) → TellsCrew output told s
       → s ≡ status.ReadFault → OperatorFailed told_in count operators (used' ++ rest)
   operator_failed full most s tells failed =
       let lowest = lowest_failed output told s tells failed in
@@ -252,16 +243,14 @@ module _ {S : Type 0} (told : ToldBySource S) (show : Show) (count : ℕ) (opera
     earlier = w.earlier;
   }
 
-  pub served_front : (s : Status) → Serves false told show count operators operators' held held' s
+  served_front : (s : Status) → Serves false told show count operators operators' held held' s
       → WritesFirstLines told show count operators held held'
   served_front status.Ok h = all_front status.Ok h h.written.0
   served_front status.ReadFault h = all_front status.ReadFault h h.written.0
   served_front status.InputTooLong h = all_front status.InputTooLong h h.written.0
   served_front status.WriteFault h = some_front status.WriteFault h h.written
   served_front status.Memory h = some_front status.Memory h h.written
-  served_front status.ShowRefused h = absurd h.written
-  served_front status.Usage h = absurd h.written
-  served_front status.Live h = absurd h.written
+  served_front s h = absurd h.written
 
 -- where nothing was written
 pub no_lines : {S : Type 0} (told : ToldBySource S) (show : Show) (count : ℕ) (operators : List (Option S))
@@ -279,7 +268,7 @@ no_lines told show count operators held held' kept = record {
 }
 
 -- What a crew's status says of the output.
-pub crew_finishes : {K : Type 0} (reads : ℕ) (told_out : ToldBySink K) (sink sink' : K) (output : Option SinkFault)
+crew_finishes : {K : Type 0} (reads : ℕ) (told_out : ToldBySink K) (sink sink' : K) (output : Option SinkFault)
     (told : List (Option OperatorFault)) (s : Status) → TellsCrew output told s → OutputCause told_out sink sink' None output
     → (output ≡ None → told_out.back sink' ≡ []) → Finishes reads reads told_out sink sink' s
 crew_finishes reads told_out sink sink' None told s tells c none =
@@ -292,22 +281,22 @@ crew_finishes reads told_out sink sink' (Some sinks.Memory) told s tells c none 
     subst (λ (t : Status). Finishes reads reads told_out sink sink' t) (sym tells)
     (not_done reads reads told_out sink sink' status.Memory (λ done. done) (λ other. other))
 
-pub crew_wants : {K : Type 0} (told_out : ToldBySink K) (sink sink' : K) (output : Option SinkFault) (told : List (Option OperatorFault))
-    (s : Status) → TellsCrew output told s → OutputCause told_out sink sink' None output → HasWanted told_out sink sink' s
-crew_wants told_out sink sink' None told s tells c is = absurd (subst (λ (t : Status). TellsOperators told t) is tells)
-crew_wants told_out sink sink' (Some sinks.Failed) told s tells c is = let odd : status.WriteFault ≡ status.Memory = sym tells ∙ is in cc
-crew_wants told_out sink sink' (Some sinks.Memory) told s tells c is = elim (c.memory refl) [ inl odd ↦ cc | inr rose ↦ inr rose ]
+-- and of its counts
+crew_failed : {K : Type 0} (told_out : ToldBySink K) (sink sink' : K) (output : Option SinkFault) (told : List (Option OperatorFault)) (s : Status)
+    → TellsCrew output told s → OutputCause told_out sink sink' None output → s ≡ status.WriteFault
+    → Rose (told_out.faults sink) (told_out.faults sink')
+crew_failed told_out sink sink' None told s tells c is = absurd (subst (λ (t : Status). TellsOperators told t) is tells)
+crew_failed told_out sink sink' (Some sinks.Failed) told s tells c is = elim (c.failed refl) [ inl odd ↦ cc | inr rose ↦ rose ]
+crew_failed told_out sink sink' (Some sinks.Memory) told s tells c is = let odd : status.Memory ≡ status.WriteFault = sym tells ∙ is in cc
 
-pub crew_takes : {K S : Type 0} (told_out : ToldBySink K) (sink sink' : K) (operators operators' : List (Option S))
-    (output : Option SinkFault) (told : List (Option OperatorFault)) (s : Status) → TellsCrew output told s
-    → OutputCause told_out sink sink' None output → TakesNoneOrWants told_out sink sink' operators operators' s
-crew_takes told_out sink sink' operators operators' None told s tells c is = absurd (subst (λ (t : Status). TellsOperators told t) is tells)
-crew_takes told_out sink sink' operators operators' (Some sinks.Failed) told s tells c is =
-    let odd : status.WriteFault ≡ status.Memory = sym tells ∙ is in cc
-crew_takes told_out sink sink' operators operators' (Some sinks.Memory) told s tells c is =
-    elim (c.memory refl) [ inl odd ↦ cc | inr rose ↦ inr rose ]
+crew_short : {K : Type 0} (told_out : ToldBySink K) (sink sink' : K) (output : Option SinkFault) (told : List (Option OperatorFault)) (s : Status)
+    → TellsCrew output told s → OutputCause told_out sink sink' None output → s ≡ status.Memory
+    → Rose (told_out.wants sink) (told_out.wants sink')
+crew_short told_out sink sink' None told s tells c is = absurd (subst (λ (t : Status). TellsOperators told t) is tells)
+crew_short told_out sink sink' (Some sinks.Failed) told s tells c is = let odd : status.WriteFault ≡ status.Memory = sym tells ∙ is in cc
+crew_short told_out sink sink' (Some sinks.Memory) told s tells c is = elim (c.memory refl) [ inl odd ↦ cc | inr rose ↦ rose ]
 
-pub crew_hands_on : {K : Type 0} (told_out : ToldBySink K) (sink sink' : K) (output : Option SinkFault) (told : List (Option OperatorFault))
+crew_hands_on : {K : Type 0} (told_out : ToldBySink K) (sink sink' : K) (output : Option SinkFault) (told : List (Option OperatorFault))
     (s : Status) → TellsCrew output told s → OutputCause told_out sink sink' None output → (output ≡ None → told_out.back sink' ≡ [])
     → HandsOn told_out sink sink' s
 crew_hands_on told_out sink sink' None told s tells c none which = let kept = c.kept refl in inr (kept.1, (kept.2, none refl))
@@ -339,17 +328,65 @@ crew_since told first before after queues queues' output output' s held wanted =
   | inr sink ↦ inr sink
 ]
 
-pub crew_wanted : {K : Type 0} (told_out : ToldBySink K) (before after queues queues' : ℕ) (sink sink' : K) (output : Option SinkFault)
-    (told : List (Option OperatorFault)) (s : Status) → TellsCrew output told s → OutputCause told_out sink sink' None output
-    → WantsCrew told_out before after queues queues' sink sink' s
-crew_wanted told_out before after queues queues' sink sink' None told s tells c is =
-    absurd (subst (λ (t : Status). TellsOperators told t) is tells)
-crew_wanted told_out before after queues queues' sink sink' (Some sinks.Failed) told s tells c is =
-    let odd : status.WriteFault ≡ status.Memory = sym tells ∙ is in cc
-crew_wanted told_out before after queues queues' sink sink' (Some sinks.Memory) told s tells c is =
-    elim (c.memory refl) [ inl odd ↦ cc | inr rose ↦ inr rose ]
+-- a crew ends as a script does
+crew_ends : (output : Option SinkFault) (told : List (Option OperatorFault)) (s : Status) → TellsCrew output told s → EndsScript s
+crew_ends None told status.Ok tells = tt
+crew_ends None told status.ReadFault tells = tt
+crew_ends None told status.InputTooLong tells = tt
+crew_ends None told s tells = absurd tells
+crew_ends (Some sinks.Failed) told s tells = subst EndsScript (sym tells) tt
+crew_ends (Some sinks.Memory) told s tells = subst EndsScript (sym tells) tt
 
-pub crew_not_live : (output : Option SinkFault) (told : List (Option OperatorFault)) (s : Status) → TellsCrew output told s → s ≢ status.Live
-crew_not_live None told s tells is = subst (λ (t : Status). TellsOperators told t) is tells
-crew_not_live (Some sinks.Failed) told s tells is = let odd : status.WriteFault ≡ status.Live = sym tells ∙ is in cc
-crew_not_live (Some sinks.Memory) told s tells is = let odd : status.Memory ≡ status.Live = sym tells ∙ is in cc
+-- The first operators were served, by a heap that had refused so much before the opening, before the crew and after it.
+pub serves_over : {S K : Type 0} (told_in : ToldBySource S) (told_out : ToldBySink K) (first before after queues queues' : ℕ) (show : Show)
+    (count : ℕ) (operators used used' rest : List (Option S)) (sink sink' : K) (console : Kept) (tally : Tally) (output : Option SinkFault)
+    (told : List (Option OperatorFault)) (s : Status) → used ≡ take count operators → length used ≡ count → rest ≡ drop count operators
+    → count ≤ length operators → EachAt (λ k source. IsSome source) operators → first ≤ before → before ≤ after → queues ≤ queues'
+    → ByMemory before after (λ ample. HasCrewed ample told_in told_out (opened show) used used' sink sink' console tally output told)
+    → OutputCause told_out sink sink' None output → (output ≡ None → told_out.back sink' ≡ []) → TellsCrew output told s
+    → ServesOver told_in told_out first after queues queues' show count sink sink' operators (used' ++ rest) s
+serves_over told_in told_out first before after queues queues' show count operators used used' rest sink sink' console tally output told s is n
+    behind most full opened_later held heard crewed cause none tells =
+    let any = crewed false (λ no. absurd cc) in
+    let short = crew_short told_out sink sink' output told s tells cause in
+    record {
+      works = crew_ends output told s tells;
+      places = keeps_places false told_in told_out show count operators used used' rest sink sink' console tally output told is n behind any full most;
+      served = λ ample stood.
+          inr (serves ample told_in told_out show count operators used used' rest sink sink' console tally output told is n behind
+          (crewed ample (λ sure. stood_since first before after opened_later (stood sure))) s tells);
+      prefix = served_front told_in show count operators (used' ++ rest) (told_out.holds sink) (told_out.holds sink') s
+          (serves false told_in told_out show count operators used used' rest sink sink' console tally output told is n behind any s tells);
+      read = operator_failed false told_in told_out show count operators used used' rest sink sink' console tally output told is n behind any full
+          most s tells;
+      write = crew_failed told_out sink sink' output told s tells cause;
+      finished = λ reads. crew_finishes reads told_out sink sink' output told s tells cause none;
+      memory = λ memory. inr (short memory);
+      unread = λ memory. inr (short memory);
+      handed_on = crew_hands_on told_out sink sink' output told s tells cause none;
+      wanted = λ memory. inr (short memory);
+      later = omega (arith, opened_later, held);
+      queues_later = heard;
+    }
+
+-- Memory was short at the opening: nothing was read or written.
+pub serves_none : {S K : Type 0} (told_in : ToldBySource S) (told_out : ToldBySink K) (before after queues queues' : ℕ) (show : Show) (count : ℕ)
+    (operators operators' : List (Option S)) (sink sink' : K) → operators' ≡ operators → sink' ≡ sink
+    → EachAt (λ k source. IsSome source) operators → before ≤ after → queues ≤ queues' → Rose before after ⊎ Rose queues queues'
+    → ServesOver told_in told_out before after queues queues' show count sink sink' operators operators' status.Memory
+serves_none told_in told_out before after queues queues' show count operators operators' sink sink' same kept full later heard short =
+    rw kept (rw same (record {
+      works = tt;
+      places = kept_places count operators operators refl full;
+      served = λ ample stood. inl (refl, (refl, refl));
+      prefix = no_lines told_in show count operators (told_out.holds sink) (told_out.holds sink) refl;
+      read = λ is. absurd cc;
+      write = λ is. absurd cc;
+      finished = λ reads. not_done reads reads told_out sink sink status.Memory (λ done. done) (λ other. other);
+      memory = λ is. inl refl;
+      unread = λ is. inl refl;
+      handed_on = λ which. inl refl;
+      wanted = λ is. inl short;
+      later = later;
+      queues_later = heard;
+    }))

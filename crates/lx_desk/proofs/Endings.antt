@@ -8,25 +8,18 @@ use Rattle.lx_desk.specs.declared.desk.Status.TheVariants as status
 use Rattle.lx_desk.proofs.Inputs.{Says, IsOverShow, IsOfShow, told_text, told_prefix, told_fits, session_text, session_front}
 use Rattle.lx_desk.proofs.Inputs.{session_long}
 use Rattle.lx_desk.proofs.Inputs.{session_fits, session_cut, refusal_cut, refusal_text, refusal_front, refusal_fits, refusal_long}
-use Rattle.lx_desk.proofs.Inputs.{refusal_isnt_ok, kept_is, if_known, both_known}
+use Rattle.lx_desk.proofs.Inputs.{refusal_isnt_ok, by_kind, refused_as, if_known, both_known}
 
 -- a script's end is that of a job
 pub script_job : (s : Status) → EndsScript s → EndsJob s
-script_job status.Ok ends = tt
 script_job status.ShowRefused ends = tt
-script_job status.Usage ends = ends
-script_job status.ReadFault ends = tt
-script_job status.WriteFault ends = tt
-script_job status.Memory ends = tt
-script_job status.InputTooLong ends = tt
-script_job status.Live ends = ends
+script_job s ends = ends
 
 pub told_ends : (s good : Status) → EndsJob good → (s ≡ good) ⊎ ((s ≡ status.WriteFault) ⊎ (s ≡ status.Memory)) → EndsJob s
-told_ends s good ends kinds = elim kinds
-    [ inl a ↦ subst EndsJob (sym a) ends | inr b ↦ elim b [ inl x ↦ subst EndsJob (sym x) tt | inr y ↦ subst EndsJob (sym y) tt ] ]
+told_ends s good ends kinds = by_kind good s EndsJob kinds ends tt tt
 
 pub refusal_ends : (h h' : Option (List ℕ)) (fault : ShowFault) (s : Status) → RefusedBy h h' fault s → EndsJob s
-refusal_ends h h' fault s by = elim by [ inl text ↦ told_ends s status.ShowRefused tt text.kinds | inr other ↦ kept_is fault s (λ f t. EndsJob t) other.is tt tt tt ]
+refusal_ends h h' fault s by = refused_as h h' fault s EndsJob by tt tt tt tt tt
 
 -- what is told of a show that was read
 pub told_ended : (ample : Bool) (form : Form) {S : Type 0} (told : ToldBySource S) (a b : Lines S) (loaded : Loaded) (job : Job)
@@ -37,15 +30,11 @@ pub told_ended : (ample : Bool) (form : Form) {S : Type 0} (told : ToldBySource 
     → IfSome o (λ x. HasEndedBy ample s job x rest h h')
 told_ended ample form told a b loaded job f tells o rest h h' s is none r kinds whole front =
     let prefix = told_prefix form ample told a b loaded job f tells o h h' is r front in
-    elim kinds [
-      | inl ok ↦ subst (λ t. IfSome o (λ x. HasEndedBy ample t job x rest h h')) (sym ok)
-          (both_known o _ _ _ (told_text form ample told a b loaded job f tells o h h' is r (whole ok))
-          (told_fits form told a b loaded job f tells o is none r) (λ x text fits. (record { text = text.0; within = fits }, text.1)))
-      | inr fault ↦ elim fault [
-        | inl write ↦ subst (λ t. IfSome o (λ x. HasEndedBy ample t job x rest h h')) (sym write) prefix
-        | inr memory ↦ subst (λ t. IfSome o (λ x. HasEndedBy ample t job x rest h h')) (sym memory) prefix
-      ]
-    ]
+    by_kind status.Ok s
+    (λ t. (t ≡ status.Ok → Appends h h' (f (reading_of loaded))) → IfSome o (λ x. HasEndedBy ample t job x rest h h')) kinds
+    (λ all. both_known o _ _ _ (told_text form ample told a b loaded job f tells o h h' is r (all refl))
+    (told_fits form told a b loaded job f tells o is none r) (λ x text fits. (record { text = text.0; within = fits }, text.1)))
+    (λ all. prefix) (λ all. prefix) whole
 
 -- a show that isn't read
 pub refusal_ended : (ample : Bool) (form : Form) (job : Job) → IsOverShow form job
@@ -57,7 +46,6 @@ refusal_ended ample form job over told a b o h h' fault status.ShowRefused is no
     both_known o _ _ _ (refusal_text form ample job over told a b o h h' fault status.ShowRefused is says by refl)
     (refusal_fits form job over told a b o h h' fault status.ShowRefused is none says by refl)
     (λ x text fits. (record { text = text.0; within = fits }, text.1))
-refusal_ended ample form job over told a b o h h' fault status.Usage is none says by = absurd (refusal_ends h h' fault status.Usage by)
 refusal_ended ample form job over told a b o h h' fault status.ReadFault is none says by =
     refusal_cut form ample job over told a b o h h' fault status.ReadFault is none says by (inl refl)
 refusal_ended ample form job over told a b o h h' fault status.WriteFault is none says by =
@@ -67,7 +55,7 @@ refusal_ended ample form job over told a b o h h' fault status.Memory is none sa
 refusal_ended ample form job over told a b o h h' fault status.InputTooLong is none says by =
     both_known o _ _ _ (refusal_cut form ample job over told a b o h h' fault status.InputTooLong is none says by (inr refl))
     (refusal_long form job over told a b o h h' fault status.InputTooLong is none says by refl) (λ x cut long. (cut, long))
-refusal_ended ample form job over told a b o h h' fault status.Live is none says by = absurd (refusal_ends h h' fault status.Live by)
+refusal_ended ample form job over told a b o h h' fault s is none says by = absurd (refusal_ends h h' fault s by)
 
 -- a script over a show that was read
 pub script_ended : (ample : Bool) (form : Form) (kind : ScriptKind) {S : Type 0} (told : ToldBySource S) (a b : Lines S)
@@ -79,8 +67,6 @@ script_ended ample form kind told a b loaded o rest h h' status.Ok is none r end
     both_known o _ _ _ (session_text form ample kind told a b loaded o h h' is r (if_known (unread told b) _ _ p (λ y q. q.0)))
     (session_fits form told a b loaded o is none r (if_known (unread told b) _ _ p (λ y q. q.1)))
     (λ x text fits. (record { text = text.0; within = fits }, text.1))
-script_ended ample form kind told a b loaded o rest h h' status.ShowRefused is none r ends p = absurd ends
-script_ended ample form kind told a b loaded o rest h h' status.Usage is none r ends p = absurd ends
 script_ended ample form kind told a b loaded o rest h h' status.ReadFault is none r ends p =
     session_cut form ample kind told a b loaded o rest h h' is none r p
 script_ended ample form kind told a b loaded o rest h h' status.WriteFault is none r ends p =
@@ -90,7 +76,7 @@ script_ended ample form kind told a b loaded o rest h h' status.Memory is none r
 script_ended ample form kind told a b loaded o rest h h' status.InputTooLong is none r ends p =
     both_known o _ _ _ (session_cut form ample kind told a b loaded o rest h h' is none r (if_known (unread told b) _ _ p (λ y q. q.0)))
     (session_long form told a b loaded o is none r (if_known (unread told b) _ _ p (λ y q. q.1))) (λ x cut long. (cut, long))
-script_ended ample form kind told a b loaded o rest h h' status.Live is none r ends p = absurd ends
+script_ended ample form kind told a b loaded o rest h h' s is none r ends p = absurd ends
 
 -- the words of a script that is played here, and of one that isn't
 pub words_here : {I O : Type 0} (kind : ScriptKind) (form : Form) (s : Status) (input input' : I) (output output' : O) → is_live kind ≡ false
@@ -103,15 +89,6 @@ words_here kind form s input input' output output' here ends = record {
 
 pub at_once_live : (kind : ScriptKind) (form : Form) → is_live kind ≡ true → at_once (Some (Script kind form)) ≡ Some status.Live
 at_once_live kind form live = ap (λ b. if b then Some status.Live else None) live
-
-pub words_live : {I O : Type 0} (kind : ScriptKind) (form : Form) (input : I) (output : O) → is_live kind ≡ true
-    → AnswersWords (Some (Script kind form)) status.Live input input output output
-words_live kind form input output live = record {
-  at = subst (λ b. IfSome (if b then Some status.Live else None)
-      (λ answer. ((status.Live ≡ answer) ⊎ (status.Live ≡ status.Memory)) × ((input ≡ input) × (output ≡ output)))) (sym live)
-      (inl refl, (refl, refl));
-  only = λ is. at_once_live kind form live;
-}
 
 pub ended_live : (o : Option (List ℕ)) (kind : ScriptKind) (form : Form) → is_live kind ≡ true
     → IfSome o (λ bytes. at_once (Some (Script kind form)) ≡ Some status.Live)

@@ -7,17 +7,18 @@ pub use Rattle.lx_base.specs.Places.{EachAt}
 pub use Rattle.lx_base.specs.declared.TheConstants.{INPUT_BYTES, UNDO_DEPTH}
 pub use Rattle.lx_console.specs.ConsoleMeaning.{StandsFor}
 pub use Rattle.lx_crew.specs.declared.fault.OperatorFault.{OperatorFault}
-pub use Rattle.lx_desk.specs.Crew.{HandsOn, HasCrewCause, HasCrewEnded, IsLowest, KeepsPlaces, OperatorFailed, Serves, ServesNone, ServesOrWants, TellsCrew}
+pub use Rattle.lx_desk.specs.Crew.{HandsOn, HasCrewCause, HasCrewEnded, IsLowest, KeepsPlaces, OperatorFailed, Serves, ServesNone, ServesOrWants, ServesOver, TellsCrew}
 pub use Rattle.lx_desk.specs.Crew.{TakesNoneOrWants, TellsOperators, WantsCrew, WritesCrewFront, WritesFirstLines, WritesLines, WritesTranscript}
 pub use Rattle.lx_desk.specs.Endings.{AnswersWords, at_once, EndsJob, EndsScript, HasCauseOf, HasEnded, HasEndedBy, HasPlayed, is_live}
 pub use Rattle.lx_desk.specs.Endings.{WritesWhole}
-pub use Rattle.lx_desk.specs.Faults.{status_for}
+pub use Rattle.lx_desk.specs.Done.{Does, Refuses, Tells}
+pub use Rattle.lx_desk.specs.Faults.{status_for, status_of_sink}
 pub use Rattle.lx_desk.specs.Finished.{Finishes, HasWanted, IsDone, IsOfInput, WantsMemory}
 pub use Rattle.lx_desk.specs.Generator.{after_cue, after_setting, after_turn, chan_text, drawn_cue, drawn_cue_text, made_show, set_text, setting_from}
 pub use Rattle.lx_desk.specs.Generator.{turn_from, turn_text}
 pub use Rattle.lx_desk.specs.Live.{AmpleMemory, any_memory, ArePlayed, AreServed, DecidesInOrder, HasFailedOutlet, HasLiveCause, HasLived, HasPlayedLive, HaveGot, HaveVersions}
 pub use Rattle.lx_desk.specs.Live.{LacksMemory, live_after, live_session, LiveAllows, LivesInFront, LivesTaken, LivesToEnd, OutletFailed, PlaysInFront}
-pub use Rattle.lx_desk.specs.Live.{OutletsFinish, OutletWanted, PlaysScript, PlaysTaken, PlaysToEnd, PlaysWhole, TellsOutlets, TellsRun, WantsLive}
+pub use Rattle.lx_desk.specs.Live.{OutletsFinish, OutletWanted, PlaysLive, PlaysScript, PlaysTaken, PlaysToEnd, PlaysWhole, TellsOutlets, TellsRun, WantsLive}
 pub use Rattle.lx_desk.specs.Output.{AnswersInFront, AnswersScript, AnswersTaken, JobFailures, NothingOfCut, RepliesToTaken, ScriptFailures, WritesAll}
 pub use Rattle.lx_desk.specs.Output.{WritesFront, WritesPrefix, WritesTaken}
 pub use Rattle.lx_desk.specs.Plays.{Plays}

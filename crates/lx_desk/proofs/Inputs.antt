@@ -9,6 +9,8 @@ use Rattle.lx_desk.proofs.Imports.{bytes_wanted, Loaded, ShowFault, reading_of, 
 use Rattle.lx_desk.proofs.Imports.{check_text, sheet_text, show_of, output_of, JobAllows, wanted_of, show_wanted, WritesAll, WritesTaken}
 use Rattle.lx_desk.proofs.Imports.{RepliesToTaken, NothingOfCut, AnswersScript, AnswersInFront, AnswersTaken, RefusedBy, status_kept, ToldBySource}
 use Rattle.lx_desk.proofs.Imports.{Bool, WritesFront, JobFailures, ScriptFailures}
+use Rattle.lx_spec.specs.CutInput.{CutOff}
+pub use Rattle.lx_desk.proofs.EmptyPrefixes.{front_nothing, no_failures, none_failed, none_of_job, nothing_written}
 use Rattle.std.proofs.KnownBytes.{Appends-nil}
 use Rattle.lx_lex.proofs.TakenLines.{lines_within, fed_then}
 use Rattle.lx_reader.specs.declared.fault.ShowFault.TheVariants as faults
@@ -19,19 +21,6 @@ use Rattle.lx_desk.specs.declared.desk.Status.TheVariants as status
 pub whole_front : (a b : Option (List ℕ)) (text : List ℕ) → Appends a b text → AppendsFront a b text
 whole_front a b text p = AppendsFront-from a b text (length text)
     (subst (λ (v : List ℕ). Appends a b v) (sym (take_all (length text) text (omega arith))) p)
-
-pub front_nothing : (a : Option (List ℕ)) (text : List ℕ) → AppendsFront a a text
-front_nothing a text = AppendsFront-from a a text 0 (Appends-nil a)
-
--- no attempt failed
-pub none_failed : (kind : ScriptKind) (bytes : List ℕ) (r : Result Reading TextFault) → ScriptAllows kind bytes [] r
-none_failed kind bytes (Ok reading) = tt
-none_failed kind bytes (Err fault) = tt
-
--- and that is so where memory was ample, too
-pub none_of_job : (ample : Bool) (job : Job) (bytes : List ℕ) → JobAllows job bytes [] → JobFailures ample job bytes []
-none_of_job true job bytes allows = refl
-none_of_job false job bytes allows = allows
 
 pub none_of_script : (ample : Bool) (by : Answering (List ℕ)) (state : by.State) (script : List (List ℕ)) → ScriptFailures ample by state script []
 none_of_script true by state script = refl
@@ -59,15 +48,32 @@ pub memory_kept : (fault : ShowFault) (s : Status) → status_kept fault s → s
 memory_kept fault s kept = kept_is fault s (λ f t. t ≡ status.Memory → f ≡ faults.Memory) kept (λ is. absurd cc) (λ is. absurd cc)
     (λ is. refl)
 
-other_ok : (fault : ShowFault) (s : Status) (P : Type 0) → status_kept fault s → s ≡ status.Ok → P
-other_ok fault s P kept = kept_is fault s (λ f t. t ≡ status.Ok → P) kept (λ is. absurd cc) (λ is. absurd cc) (λ is. absurd cc)
+-- a text was told, or a write failed, or memory was short
+pub by_kind : (good s : Status) (P : Status → Type 0) → (s ≡ good) ⊎ ((s ≡ status.WriteFault) ⊎ (s ≡ status.Memory)) → P good
+    → P status.WriteFault → P status.Memory → P s
+by_kind good s P kinds well write memory = elim kinds [
+  | inl is ↦ subst P (sym is) well
+  | inr fault ↦ elim fault [ inl is ↦ subst P (sym is) write | inr is ↦ subst P (sym is) memory ]
+]
 
-kinds_ok : (s : Status) (P : Type 0) → (s ≡ status.ShowRefused) ⊎ ((s ≡ status.WriteFault) ⊎ (s ≡ status.Memory)) → s ≡ status.Ok → P
-kinds_ok s P kinds is = elim kinds [ inl a ↦ absurd cc | inr b ↦ elim b [ inl x ↦ absurd cc | inr y ↦ absurd cc ] ]
+pub kinds_cut : (s : Status) (P : Type 0) → (s ≡ status.ShowRefused) ⊎ ((s ≡ status.WriteFault) ⊎ (s ≡ status.Memory))
+    → (s ≡ status.ReadFault) ⊎ (s ≡ status.InputTooLong) → P
+kinds_cut s P kinds is = elim is [
+  | inl read ↦ by_kind status.ShowRefused s (λ t. t ≡ status.ReadFault → P) kinds (λ e. absurd cc) (λ e. absurd cc) (λ e. absurd cc) read
+  | inr long ↦ by_kind status.ShowRefused s (λ t. t ≡ status.InputTooLong → P) kinds (λ e. absurd cc) (λ e. absurd cc) (λ e. absurd cc) long
+]
 
--- a refusal is never Ok
+-- a refusal has one of five statuses
+pub refused_as : (h h' : Option (List ℕ)) (fault : ShowFault) (s : Status) (P : Status → Type 0) → RefusedBy h h' fault s
+    → P status.ShowRefused → P status.WriteFault → P status.Memory → P status.ReadFault → P status.InputTooLong → P s
+refused_as h h' fault s P by refused write memory read long = elim by [
+  | inl text ↦ by_kind status.ShowRefused s P text.kinds refused write memory
+  | inr other ↦ kept_is fault s (λ f t. P t) other.is read long memory
+]
+
 pub refusal_isnt_ok : (h h' : Option (List ℕ)) (fault : ShowFault) (s : Status) (P : Type 0) → RefusedBy h h' fault s → s ≡ status.Ok → P
-refusal_isnt_ok h h' fault s P by is = elim by [ inl text ↦ kinds_ok s P text.kinds is | inr other ↦ other_ok fault s P other.is is ]
+refusal_isnt_ok h h' fault s P by = refused_as h h' fault s (λ t. t ≡ status.Ok → P) by (λ e. absurd cc) (λ e. absurd cc) (λ e. absurd cc)
+    (λ e. absurd cc) (λ e. absurd cc)
 
 pub if_known : (o : Option (List ℕ)) (P Q : List ℕ → Type 0) → IfSome o P → ((xs : List ℕ) → P xs → Q xs) → IfSome o Q
 if_known None P Q p f = tt
@@ -81,6 +87,34 @@ pub both_known : (o : Option (List ℕ)) (P Q R : List ℕ → Type 0) → IfSom
     → IfSome o R
 both_known None P Q R p q f = tt
 both_known (Some xs) P Q R p q f = f xs p q
+
+-- lines behind others
+pub fed_behind : (all xs ys y z : List ℕ) (m n k : ℕ) → k ≡ m + n → all ≡ xs ++ ys → (feeds xs ≡ m) ⊎ (y ≡ [])
+    → (feeds ys ≡ n) ⊎ (z ≡ []) → y ≡ ys ++ z → (feeds all ≡ k) ⊎ (z ≡ [])
+fed_behind all xs ys y z m n k e is p q took = subst (λ (v : List ℕ). (feeds v ≡ k) ⊎ (z ≡ [])) (sym is) (fed_then xs ys y z m n k e p q took)
+
+-- what was cut off behind lines was so behind those before them and these
+abbrev pub cut_from : (x y : List ℕ) (left : Option (List ℕ)) (i j : ℕ) (raws : List (List ℕ)) → i ≡ 0
+    → LinesBetween (Some x) (Some y) i j raws → CutOff j y left → CutOff 0 x left
+cut_from x y left i j raws none took cut =
+    let n = cut.lines in
+    let mine : took.bytes ≡ first_lines (length raws) (took.bytes ++ y) = took.front ∙ ap (first_lines (length raws)) took.took in
+    let first : first_lines (length raws + n) x ≡ took.bytes ++ first_lines n y = ap (first_lines (length raws + n)) took.took
+    ∙ first_lines-more (length raws) n took.bytes y mine in
+    let count : j + length (first_lines n y) ≡ 0 + length (first_lines (length raws + n) x) =
+    omega (arith, none, took.count, ap length first, length-append took.bytes (first_lines n y)) in
+    record {
+      lines = length raws + n;
+      next = cut.next;
+      taken = if_known left _ _ cut.taken (λ rest e.
+          took.took ∙ ap (λ v. took.bytes ++ v) e ∙ sym (append_assoc took.bytes (first_lines n y) (cut.next ++ rest))
+          ∙ ap (λ v. v ++ (cut.next ++ rest)) (sym first));
+      within = let w = cut.within in omega (arith, count, w);
+      fed = if_known left _ _ (if_both left _ _ cut.taken cut.fed) (λ rest p.
+          fed_behind (first_lines (length raws + n) x) took.bytes (first_lines n y) y (cut.next ++ rest) (length raws) n
+          (length raws + n) refl first took.fed p.1 p.0);
+      no_feed = subst (λ k. HasNoFeed (take (INPUT_BYTES - k) cut.next)) count cut.no_feed;
+    }
 
 -- Of a show whose levels are read in this form.
 module _ (form : Form) where
@@ -201,11 +235,6 @@ module _ (form : Form) where
   more_wanted x n (Ok reading) h = omega (arith, h)
   more_wanted x n (Err i) h = h
 
-  -- lines behind others
-  pub fed_behind : (all xs ys y z : List ℕ) (m n k : ℕ) → k ≡ m + n → all ≡ xs ++ ys → (feeds xs ≡ m) ⊎ (y ≡ [])
-      → (feeds ys ≡ n) ⊎ (z ≡ []) → y ≡ ys ++ z → (feeds all ≡ k) ⊎ (z ≡ [])
-  fed_behind all xs ys y z m n k e is p q took = subst (λ (v : List ℕ). (feeds v ≡ k) ⊎ (z ≡ [])) (sym is) (fed_then xs ys y z m n k e p q took)
-
   -- The script was cut off behind a show that was read.
   cut_behind : (ample : Bool) (kind : ScriptKind) (x y : List ℕ) (left h h' : Option (List ℕ)) (i j : ℕ) (raws : List (List ℕ)) (reading : Reading)
       → i ≡ 0 → LinesBetween (Some x) (Some y) i j raws → lines_read (lines_of x) ≡ length raws → reads form x ≡ Ok reading
@@ -213,28 +242,12 @@ module _ (form : Form) where
       → RepliesToTaken ample (Script kind form) x left h h'
   cut_behind ample kind x y left h h' i j raws reading none took shown text script a =
       let n = a.cut.lines in
-      let mine : took.bytes ≡ first_lines (length raws) (took.bytes ++ y) = took.front ∙ ap (first_lines (length raws)) took.took in
-      let first : first_lines (length raws + n) x ≡ took.bytes ++ first_lines n y = ap (first_lines (length raws + n)) took.took
-      ∙ first_lines-more (length raws) n took.bytes y mine in
-      let count : j + length (first_lines n y) ≡ 0 + length (first_lines (length raws + n) x) =
-      omega (arith, none, took.count, ap length first, length-append took.bytes (first_lines n y)) in
       let done : length raws + n - lines_read (lines_of x) ≡ n = omega (arith, shown) in
       record {
         failures = a.failures;
         allows = allows_at ample kind x a.failures reading text
             (subst (λ ls. ScriptFailures ample (answering_of kind) (opening_of kind reading.show) ls a.failures) (sym script) a.allows);
-        cut = record {
-          lines = length raws + n;
-          next = a.cut.next;
-          taken = if_known left _ _ a.cut.taken (λ rest e.
-              took.took ∙ ap (λ v. took.bytes ++ v) e ∙ sym (append_assoc took.bytes (first_lines n y) (a.cut.next ++ rest))
-              ∙ ap (λ v. v ++ (a.cut.next ++ rest)) (sym first));
-          within = omega (arith, count, a.cut.within);
-          fed = if_known left _ _ (if_both left _ _ a.cut.taken a.cut.fed) (λ rest p.
-              fed_behind (first_lines (length raws + n) x) took.bytes (first_lines n y) y (a.cut.next ++ rest) (length raws) n
-              (length raws + n) refl first took.fed p.1 p.0);
-          no_feed = subst (λ k. HasNoFeed (take (INPUT_BYTES - k) a.cut.next)) count a.cut.no_feed;
-        };
+        cut = cut_from x y left i j raws none took a.cut;
         short =
             let w = ap (input_lines_wanted x) text in
             let s = ap lines_wanted script in
@@ -295,7 +308,6 @@ module _ (form : Form) where
   -- A job over the show that its input begins with.
   pub record IsOverShow (job : Job) : Type 0 where
     pub show : (x : List ℕ) → show_of job x ≡ reads form x
-    pub nothing : (x : List ℕ) → JobAllows job x []
     pub refusal : (x : List ℕ) (fault : TextFault) → reads form x ≡ Err fault → output_of job x [] ≡ fault_text fault
     pub wanted : (x : List ℕ) (fault : TextFault) → reads form x ≡ Err fault → wanted_of job x ≡ show_wanted x
     pub longer : (x : List ℕ) (n : ℕ) → n + 1 ≤ lines_read (lines_of x) → length (first_lines (n + 1) x) ≤ length (wanted_of job x)
@@ -311,46 +323,33 @@ module _ (form : Form) where
   pub script_over : (kind : ScriptKind) → IsOverShow (Script kind form)
   script_over kind = record {
     show = λ x. refl;
-    nothing = λ x. none_failed kind x (reads form x);
     refusal = λ x fault text. ap (λ r. over_show r (λ reading. (script_session kind x [] reading).text)) text;
     wanted = λ x fault text. ap (λ k. first_lines k x) (ap (input_lines_wanted x) text);
     longer = λ x n h. first_lines-longer (n + 1) (input_lines_wanted x (reads form x)) x (more_wanted x n (reads form x) h);
     cut = λ ample x left h i none short. cut_within ample kind x left h i none short;
   }
 
-  pub check_tells : IsOfShow (Check form) check_text
-  check_tells = record {
+  -- a job that tells of the show alone, and writes nothing where the input was cut off within it
+  pub of_show : (job : Job) (f : Reading → List ℕ) → ((x : List ℕ) → show_of job x ≡ reads form x)
+      → ((x : List ℕ) → output_of job x [] ≡ over_show (reads form x) f) → ((x : List ℕ) → wanted_of job x ≡ show_wanted x)
+      → ((ample : Bool) (x : List ℕ) (left h : Option (List ℕ)) → NothingOfCut x left h h → WritesTaken ample job x left h h) → IsOfShow job f
+  of_show job f show output bytes cut = record {
     over = record {
-      show = λ x. refl;
-      nothing = λ x. tt;
-      refusal = λ x fault text. ap (λ r. over_show r check_text) text;
-      wanted = λ x fault text. refl;
-      longer = λ x n h. first_lines-longer (n + 1) (lines_read (lines_of x)) x h;
-      cut = λ ample x left h i none short. nothing_of_cut x left h i none short;
+      show = show;
+      refusal = λ x fault text. output x ∙ ap (λ r. over_show r f) text;
+      wanted = λ x fault text. bytes x;
+      longer = λ x n h. omega (arith, ap length (bytes x), first_lines-longer (n + 1) (lines_read (lines_of x)) x h);
+      cut = λ ample x left h i none short. cut ample x left h (nothing_of_cut x left h i none short);
     };
-    output = λ x. refl;
-    bytes = λ x. refl;
+    output = output;
+    bytes = bytes;
   }
+
+  pub check_tells : IsOfShow (Check form) check_text
+  check_tells = of_show (Check form) check_text (λ x. refl) (λ x. refl) (λ x. refl) (λ ample x left h cut. cut)
 
   pub sheet_tells : IsOfShow (Sheet form) sheet_text
-  sheet_tells = record {
-    over = record {
-      show = λ x. refl;
-      nothing = λ x. tt;
-      refusal = λ x fault text. ap (λ r. over_show r sheet_text) text;
-      wanted = λ x fault text. refl;
-      longer = λ x n h. first_lines-longer (n + 1) (lines_read (lines_of x)) x h;
-      cut = λ ample x left h i none short. nothing_of_cut x left h i none short;
-    };
-    output = λ x. refl;
-    bytes = λ x. refl;
-  }
-
-  -- a prefix of nothing was written
-  pub nothing_written : (ample : Bool) (job : Job) → IsOverShow job → (o a : Option (List ℕ)) → IfSome o (λ bytes. WritesFront ample job bytes a a)
-  nothing_written ample job over None a = tt
-  nothing_written ample job over (Some bytes) a =
-      record { failures = []; allows = none_of_job ample job bytes (over.nothing bytes); text = front_nothing a (output_of job bytes []) }
+  sheet_tells = of_show (Sheet form) sheet_text (λ x. refl) (λ x. refl) (λ x. refl) (λ ample x left h cut. cut)
 
   -- What is told of a show that was read.
   told_at : (ample : Bool) (job : Job) (f : Reading → List ℕ) → IsOfShow job f → (x : List ℕ) (h h' : Option (List ℕ)) (reading : Reading)
@@ -358,7 +357,7 @@ module _ (form : Form) where
   told_at ample job f tells x h h' reading read text = (
     record {
       failures = [];
-      allows = none_of_job ample job x (tells.over.nothing x);
+      allows = none_of_job ample job x (no_failures job x);
       text = subst (λ (t : List ℕ). Appends h h' t) (sym (tells.output x ∙ ap (λ r. over_show r f) read)) text;
     },
     subst (λ (r : Result Reading TextFault). IsOk r) (sym (tells.over.show x ∙ read)) refl,
@@ -368,7 +367,7 @@ module _ (form : Form) where
       → reads form x ≡ Ok reading → AppendsFront h h' (f reading) → WritesFront ample job x h h'
   told_front_at ample job f tells x h h' reading read text = record {
     failures = [];
-    allows = none_of_job ample job x (tells.over.nothing x);
+    allows = none_of_job ample job x (no_failures job x);
     text = subst (λ (t : List ℕ). AppendsFront h h' t) (sym (tells.output x ∙ ap (λ r. over_show r f) read)) text;
   }
 
@@ -433,7 +432,7 @@ module _ (form : Form) where
   text_at ample job over (Some x) h h' fault text appended = (
     record {
       failures = [];
-      allows = none_of_job ample job x (over.nothing x);
+      allows = none_of_job ample job x (no_failures job x);
       text = subst (λ (v : List ℕ). Appends h h' v) (sym (over.refusal x fault text)) appended;
     },
     subst (λ (r : Result Reading TextFault). IsErr r) (sym (over.show x ∙ text)) refl,
@@ -444,7 +443,7 @@ module _ (form : Form) where
   text_front ample job over None h h' fault text appended = tt
   text_front ample job over (Some x) h h' fault text appended = record {
     failures = [];
-    allows = none_of_job ample job x (over.nothing x);
+    allows = none_of_job ample job x (no_failures job x);
     text = subst (λ (v : List ℕ). AppendsFront h h' v) (sym (over.refusal x fault text)) appended;
   }
 
@@ -484,7 +483,7 @@ module _ (form : Form) where
   refusal_front ample job over told a b o h h' fault s is says by = elim by [
     | inl text ↦ subst (λ (v : Option (List ℕ)). IfSome v (λ x. WritesFront ample job x h h')) is
         (text_front ample job over (unread told a) h h' text.text (means_of told a b fault text.text text.told says).text text.front)
-    | inr other ↦ subst (λ (v : Option (List ℕ)). IfSome o (λ x. WritesFront ample job x h v)) (sym other.kept) (nothing_written ample job over o h)
+    | inr other ↦ subst (λ (v : Option (List ℕ)). IfSome o (λ x. WritesFront ample job x h v)) (sym other.kept) (nothing_written ample job o h)
   ]
 
   pub refusal_fits : (job : Job) → IsOverShow job
@@ -501,16 +500,12 @@ module _ (form : Form) where
   long_kept fault s kept = kept_is fault s (λ f t. t ≡ status.InputTooLong → f ≡ faults.InputTooLong) kept (λ is. absurd cc) (λ is. refl)
       (λ is. absurd cc)
 
-  kinds_long : (s : Status) (P : Type 0) → (s ≡ status.ShowRefused) ⊎ ((s ≡ status.WriteFault) ⊎ (s ≡ status.Memory))
-      → s ≡ status.InputTooLong → P
-  kinds_long s P kinds is = elim kinds [ inl a ↦ absurd cc | inr b ↦ elim b [ inl x ↦ absurd cc | inr y ↦ absurd cc ] ]
-
   pub refusal_long : (job : Job) → IsOverShow job
       → {S : Type 0} (told : ToldBySource S) (a b : Lines S) (o h h' : Option (List ℕ)) (fault : ShowFault) (s : Status)
       → unread told a ≡ o → a.taken ≡ 0 → Says told a b fault → RefusedBy h h' fault s → s ≡ status.InputTooLong
       → IfSome o (λ x. INPUT_BYTES < length (wanted_of job x))
   refusal_long job over told a b o h h' fault s is none says by long = elim by [
-    | inl text ↦ kinds_long s (IfSome o (λ x. INPUT_BYTES < length (wanted_of job x))) text.kinds long
+    | inl text ↦ kinds_cut s (IfSome o (λ x. INPUT_BYTES < length (wanted_of job x))) text.kinds (inr long)
     | inr other ↦ subst (λ (v : Option (List ℕ)). IfSome v (λ x. INPUT_BYTES < length (wanted_of job x))) is
         (long_input job over a.taken (unread told a) none (subst (λ f. Says told a b f) (long_kept fault s other.is long) says).0)
   ]
@@ -520,13 +515,6 @@ module _ (form : Form) where
   cut_kept told a b fault s kept =
       kept_is fault s (λ f t. (t ≡ status.ReadFault) ⊎ (t ≡ status.InputTooLong) → Says told a b f → CutShort told a b) kept
       (λ is says. says) (λ is says. says.1) (λ is says. elim is [ inl x ↦ absurd cc | inr y ↦ absurd cc ])
-
-  kinds_cut : (s : Status) (P : Type 0) → (s ≡ status.ShowRefused) ⊎ ((s ≡ status.WriteFault) ⊎ (s ≡ status.Memory))
-      → (s ≡ status.ReadFault) ⊎ (s ≡ status.InputTooLong) → P
-  kinds_cut s P kinds is = elim is [
-    | inl read ↦ elim kinds [ inl a ↦ absurd cc | inr b ↦ elim b [ inl x ↦ absurd cc | inr y ↦ absurd cc ] ]
-    | inr long ↦ kinds_long s P kinds long
-  ]
 
   pub refusal_cut : (ample : Bool) (job : Job) → IsOverShow job
       → {S : Type 0} (told : ToldBySource S) (a b : Lines S) (o h h' : Option (List ℕ)) (fault : ShowFault) (s : Status)

@@ -2,6 +2,7 @@ mod CheckLine
 mod Endings
 mod Inputs
 mod Finishing
+mod Jobs
 mod MadeEndings
 mod Statuses
 mod Played

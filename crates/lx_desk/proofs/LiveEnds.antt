@@ -12,7 +12,8 @@ use Rattle.lx_desk.specs.declared.desk.Status.TheVariants as status
 use Rattle.lx_desk.proofs.Imports.{Check, IsErr, NothingOfCut, status_kept}
 use Rattle.lx_desk.proofs.Inputs.{check_tells, kept_is, refusal_cut}
 use Rattle.lx_desk.proofs.Inputs.{Says, means_of, session_long, session_fits, refusal_isnt_ok, front_nothing, if_known, both_known, over_loaded}
-use Rattle.lx_desk.proofs.Inputs.{if_both, fed_behind, wanted_read, script_over}
+use Rattle.lx_desk.proofs.EmptyPrefixes.{unwritten_as}
+use Rattle.lx_desk.proofs.Inputs.{cut_from, wanted_read, script_over}
 use Rattle.lx_desk.proofs.AnyFailures.{each_allowed}
 use Rattle.lx_desk.proofs.Endings.{refusal_ends, refusal_ended}
 
@@ -68,28 +69,12 @@ module _ (ample : AmpleMemory) (form : Form) (universes : ℕ) where
       → PlaysTaken ample told reading.show universes j y left h h' outlets outlets' → LivesTaken ample told universes form x left h h' outlets outlets'
   taken_at told x y left h h' outlets outlets' i j raws reading none took shown text script a =
       let n = a.cut.lines in
-      let mine : took.bytes ≡ first_lines (length raws) (took.bytes ++ y) = took.front ∙ ap (first_lines (length raws)) took.took in
-      let first : first_lines (length raws + n) x ≡ took.bytes ++ first_lines n y = ap (first_lines (length raws + n)) took.took
-      ∙ first_lines-more (length raws) n took.bytes y mine in
-      let count : j + length (first_lines n y) ≡ 0 + length (first_lines (length raws + n) x) =
-      omega (arith, none, took.count, ap length first, length-append took.bytes (first_lines n y)) in
       let done : n ≡ length raws + n - lines_read (lines_of x) = omega (arith, shown) in
       record {
         reading = reading;
         read = text;
         failures = a.failures;
-        cut = record {
-          lines = length raws + n;
-          next = a.cut.next;
-          taken = if_known left _ _ a.cut.taken (λ rest e.
-              took.took ∙ ap (λ v. took.bytes ++ v) e ∙ sym (append_assoc took.bytes (first_lines n y) (a.cut.next ++ rest))
-              ∙ ap (λ v. v ++ (a.cut.next ++ rest)) (sym first));
-          within = omega (arith, count, a.cut.within);
-          fed = if_known left _ _ (if_both left _ _ a.cut.taken a.cut.fed) (λ rest p.
-              fed_behind form (first_lines (length raws + n) x) took.bytes (first_lines n y) y (a.cut.next ++ rest) (length raws) n
-              (length raws + n) refl first took.fed p.1 p.0);
-          no_feed = subst (λ k. HasNoFeed (take (INPUT_BYTES - k) a.cut.next)) count a.cut.no_feed;
-        };
+        cut = cut_from x y left i j raws none took a.cut;
         short =
             let s = ap lines_wanted script in
             let m = a.short in
@@ -117,16 +102,6 @@ module _ (ample : AmpleMemory) (form : Form) (universes : ℕ) where
     text = subst (λ (t : List ℕ). Appends h h' t)
         (sym (ap (λ r. first_replies (Live universes) x a.failures (a.cut.lines - lines_read (lines_of x)) r) a.read)) a.text;
   }
-
-  -- nothing was written
-  nothing_lived : (x : List ℕ) (h h' : Option (List ℕ)) → h' ≡ h → WritesPrefix (Script (Live universes) form) x h h'
-  nothing_lived x h h' kept =
-      subst (λ (v : Option (List ℕ)). WritesPrefix (Script (Live universes) form) x h v) (sym kept)
-      (record {
-        failures = [];
-        allows = live_allows x [] (reads form x);
-        text = front_nothing h (script_output (Live universes) form x []);
-      })
 
   -- a script over a show that was read
   pub live_ended : {S K : Type 0} (told_in : ToldBySource S) (told : ToldBySink K)
@@ -161,15 +136,11 @@ module _ (ample : AmpleMemory) (form : Form) (universes : ℕ) where
   live_ended told_in told a b loaded o rest h h' outlets outlets' status.Memory is none r p =
       over_loaded form told_in a b loaded o (λ y. ((h' ≡ h) × (outlets' ≡ outlets))
       ⊎ PlaysInFront ample told loaded.show universes (lines_of y) h h' outlets outlets') _ is r p (λ x y raws took shown text script q. elim q [
-        | inl kept ↦ (nothing_lived x h h' kept.0, inl (kept.1, λ ok. kept.0))
+        | inl kept ↦ (unwritten_as false (Script (Live universes) form) x h h' kept.0, inl (kept.1, λ ok. kept.0))
         | inr plays ↦ let w = prefix_at told x y (reading_of loaded) h h' outlets outlets' text script plays in
             (w.0, inr w.1)
       ])
-  live_ended told_in told a b loaded o rest h h' outlets outlets' status.ShowRefused is none r p =
-      over_loaded form told_in a b loaded o (λ y. ⊥) _ is r p (λ x y raws took shown text script q. absurd q)
-  live_ended told_in told a b loaded o rest h h' outlets outlets' status.Usage is none r p =
-      over_loaded form told_in a b loaded o (λ y. ⊥) _ is r p (λ x y raws took shown text script q. absurd q)
-  live_ended told_in told a b loaded o rest h h' outlets outlets' status.Live is none r p =
+  live_ended told_in told a b loaded o rest h h' outlets outlets' s is none r p =
       over_loaded form told_in a b loaded o (λ y. ⊥) _ is r p (λ x y raws took shown text script q. absurd q)
 
   -- why no line of a script was answered, by the status
@@ -186,11 +157,8 @@ module _ (ample : AmpleMemory) (form : Form) (universes : ℕ) where
   refused_at told x rest h h' outlets fault status.Ok by e none = refusal_isnt_ok h h' fault status.Ok _ by refl
   refused_at told x rest h h' outlets fault status.ShowRefused by e none = (e, refl)
   refused_at told x rest h h' outlets fault status.Usage by e none = absurd e
-  refused_at told x rest h h' outlets fault status.ReadFault by e none = (e, inl (refl, none))
-  refused_at told x rest h h' outlets fault status.WriteFault by e none = (e, inl (refl, none))
-  refused_at told x rest h h' outlets fault status.Memory by e none = (e, inl (refl, none))
-  refused_at told x rest h h' outlets fault status.InputTooLong by e none = (e, inl (refl, none))
   refused_at told x rest h h' outlets fault status.Live by e none = absurd (refusal_ends h h' fault status.Live by)
+  refused_at told x rest h h' outlets fault s by e none = (e, inl (refl, none))
 
   -- of a show that isn't read, no script line is answered
   none_answered : (o h h' : Option (List ℕ)) (text : TextFault) → IfSome o (λ x. reads form x ≡ Err text)
@@ -233,11 +201,7 @@ module _ (ample : AmpleMemory) (form : Form) (universes : ℕ) where
   by_status told a b o h h' fault status.InputTooLong is none says by =
       cut_off told a b o h h' fault status.InputTooLong is none says by (inr refl)
   by_status told a b o h h' fault status.WriteFault is none says by = isnt_shown told a b o h h' fault is says by
-  by_status told a b o h h' fault status.Ok is none says by = unanswered told a b o h h' fault status.Ok is says by
-  by_status told a b o h h' fault status.ShowRefused is none says by = unanswered told a b o h h' fault status.ShowRefused is says by
-  by_status told a b o h h' fault status.Usage is none says by = unanswered told a b o h h' fault status.Usage is says by
-  by_status told a b o h h' fault status.Memory is none says by = unanswered told a b o h h' fault status.Memory is says by
-  by_status told a b o h h' fault status.Live is none says by = unanswered told a b o h h' fault status.Live is says by
+  by_status told a b o h h' fault s is none says by = unanswered told a b o h h' fault s is says by
 
   -- a show that isn't read
   pub refused_lived : {S K : Type 0} (told_in : ToldBySource S) (told : ToldBySink K) (a b : Lines S)
@@ -297,12 +261,7 @@ module _ (ample : AmpleMemory) (form : Form) (universes : ℕ) {O K : Type 0} (t
       f LacksMemory q.1,
     )
   ]
-  order_on status.Ok reads reads' reads'' P Q same f p = tt
-  order_on status.ShowRefused reads reads' reads'' P Q same f p = tt
-  order_on status.Usage reads reads' reads'' P Q same f p = tt
-  order_on status.ReadFault reads reads' reads'' P Q same f p = tt
-  order_on status.InputTooLong reads reads' reads'' P Q same f p = tt
-  order_on status.Live reads reads' reads'' P Q same f p = tt
+  order_on s reads reads' reads'' P Q same f p = tt
 
   pub live_order : {S : Type 0} (told_in : ToldBySource S) (a b : Lines S) (loaded : Loaded) (o : Option (List ℕ))
       (s : Status) (reads reads' reads'' : ℕ) → unread told_in a ≡ o → a.taken ≡ 0 → HasRead told_in a b form loaded → reads' ≡ reads
@@ -323,12 +282,7 @@ order_refused status.Memory reads reads' told output output' outlets ToEnd write
   | inl same ↦ inl (inl (same, refl))
   | inr rose ↦ inl (inr rose)
 ]
-order_refused status.Ok reads reads' told output output' outlets ToEnd write memory = tt
-order_refused status.ShowRefused reads reads' told output output' outlets ToEnd write memory = tt
-order_refused status.Usage reads reads' told output output' outlets ToEnd write memory = tt
-order_refused status.ReadFault reads reads' told output output' outlets ToEnd write memory = tt
-order_refused status.InputTooLong reads reads' told output output' outlets ToEnd write memory = tt
-order_refused status.Live reads reads' told output output' outlets ToEnd write memory = tt
+order_refused s reads reads' told output output' outlets ToEnd write memory = tt
 
 pub all_refused : {O K : Type 0} (o : Option (List ℕ)) (s : Status) (reads reads' : ℕ) (told : ToldBySink O) (output output' : O)
     (outlets : List (Option K)) (ToEnd : List ℕ → (List (Option SinkFault) → ℕ → Type 0) → Type 0)

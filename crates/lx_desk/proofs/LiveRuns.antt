@@ -8,17 +8,18 @@ use Rattle.lx_desk.proofs.Imports.{HasSessionCause, IsFull, Status, status_for, 
 use Rattle.lx_desk.proofs.Imports.{AmpleMemory, AreServed, PlaysInFront, PlaysTaken, HasPlayedLive, ArePlayed, OutletFailed, PlaysToEnd, LacksMemory, HasFailedOutlet}
 use Rattle.lx_desk.proofs.Imports.{DecidesInOrder, Finishes, HasLiveCause, TellsOutlets, TellsRun, Appends, AppendsFront, ToldBySink, ToldBySource}
 use Rattle.std.specs.Prelude.{◌&&◌}
-use Rattle.lx_desk.proofs.Imports.{◌-◌, AppendsAtLeast, desk_lawful, more_of_whole}
-use Rattle.lx_desk.proofs.Imports.{Rose, HasStood, OutletsFinish, OutletWanted, WantsLive, WantsMemory}
+use Rattle.lx_desk.proofs.Imports.{◌-◌, AppendsAtLeast, desk_lawful, drop_at, more_of_whole, take-append-drop}
+use Rattle.lx_desk.proofs.Imports.{◌⊎◌, bytes_taken, ByMemory, EndsScript, PlaysLive, stood_since, unread, Rose, HasStood, OutletsFinish, OutletWanted, WantsLive, WantsMemory}
 use Rattle.std.proofs.lemmas.Bool.{cases_lt}
 use Rattle.lx_io.specs.Causes.{one_more}
 use Rattle.lx_io.specs.declared.sink.SinkFault.TheVariants as sinks
 use Rattle.lx_session.specs.declared.fault.SessionFault.TheVariants as faults
 use Rattle.lx_workers.specs.Engines.{engine_answering, leaves_room}
-use Rattle.lx_workers.specs.LiveOutcome.{AreDelivered}
+use Rattle.lx_workers.specs.LiveOutcome.{AreDelivered, HasPlayedScript}
+use Rattle.lx_workers.specs.Places.{OutletIsBack}
 use Rattle.lx_desk.specs.declared.desk.Status.TheVariants as status
-use Rattle.lx_desk.proofs.Finishing.{all_done, rose_since, session_finishes, session_wanted}
-use Rattle.lx_desk.proofs.Statuses.{as_live_cause, has_cause}
+use Rattle.lx_desk.proofs.Finishing.{all_done, not_done, rose_since, session_finishes, session_wanted}
+use Rattle.lx_desk.proofs.Statuses.{as_live_cause, ends_script, has_cause}
 use Rattle.lx_desk.proofs.AnyFailures.{alike}
 use Rattle.lx_desk.proofs.Inputs.{whole_front, both_known}
 
@@ -38,9 +39,11 @@ pub take_before : {X : Type 0} (xs ys : List X) → take (length xs) (xs ++ ys) 
 take_before [] ys = refl
 take_before (x ∷ xs) ys = ap (λ l. x ∷ l) (take_before xs ys)
 
-pub drop_before : {X : Type 0} (xs ys : List X) → drop (length xs) (xs ++ ys) ≡ ys
-drop_before [] ys = refl
-drop_before (x ∷ xs) ys = drop_before xs ys
+-- the places in use, unchanged, and the others behind them
+pub joined : {S : Type 0} (count : ℕ) (places used used' rest : List (Option S)) → used' ≡ used → used ≡ take count places
+    → rest ≡ drop count places → used' ++ rest ≡ places
+joined count places used used' rest same is behind =
+    ap (λ l. l ++ rest) (same ∙ is) ∙ (ap (λ l. take count places ++ l) behind ∙ take-append-drop count places)
 
 pub full_take : {K : Type 0} (n : ℕ) (outlets : List (Option K)) → IsFull outlets → IsFull (take n outlets)
 full_take zero outlets full = tt
@@ -54,34 +57,166 @@ full_sink (Some start ∷ outlets) full zero lt = (start, refl)
 full_sink (None ∷ outlets) full zero lt = absurd cc
 full_sink (outlet ∷ outlets) full (suc place) lt = full_sink outlets full.1 place (omega arith)
 
--- the outlets' lines are those of the list that was published
-versions_of : {K : Type 0} (told : ToldBySink K) (show : Show) (universes : ℕ)
-    (outlets used used' : List (Option K)) (rest : List (Option K)) (results : List (Option SinkFault)) (list : List Command)
-    → used ≡ take universes outlets → length used ≡ universes
-    → ((place : ℕ) (fault : Option SinkFault) → slice_get results place ≡ Some fault → fault ≡ None)
-    → AreDelivered told show used used' results list → HaveVersions told show universes outlets (used' ++ rest) list
-versions_of told show universes outlets used used' rest results list is n none d = λ place start within at.
-    let back = d.each place start (ap (λ l. slice_get l place) is ∙ (get_take universes place outlets within ∙ at)) in
-    record {
-      new = back.new;
-      place_is = get_before used' rest place (omega (arith, within, n, d.same_places)) ∙ back.place_is;
-      all = back.delivered.whole (none place back.fault back.fault_is);
-    }
+-- a live run ends as a script does
+run_ends : (session : Result Tally SessionFault) (results : List (Option SinkFault)) (unsent : ℕ) (s : Status)
+    → TellsRun session results unsent s → EndsScript s
+run_ends (Ok tally) results unsent status.Ok tells = tt
+run_ends (Ok tally) results unsent status.WriteFault tells = tt
+run_ends (Ok tally) results unsent status.Memory tells = tt
+run_ends (Ok tally) results unsent s tells = absurd tells
+run_ends (Err fault) results unsent s tells = subst EndsScript (sym tells) (ends_script (Err fault))
 
--- the outlets in use got what they were to get, and the others are as they were
-abbrev have_got : {K : Type 0} (told : ToldBySink K) (show : Show) (universes : ℕ)
-    (outlets used used' rest : List (Option K)) (results : List (Option SinkFault)) (published : List Command)
-    → used ≡ take universes outlets → length used ≡ universes → rest ≡ drop universes outlets
-    → AreDelivered told show used used' results published → HaveGot told show universes outlets (used' ++ rest) published
-have_got {K = K} told show universes outlets used used' rest results published is count behind d =
-    let n : length used' ≡ universes = d.same_places ∙ count in
-    record {
-      results = results;
-      delivered = subst (λ (u : List (Option K)). AreDelivered told show u (take universes (used' ++ rest)) results
-          published) is (subst (λ (u : List (Option K)). AreDelivered told show used u results published)
-          (sym (ap (λ k. take k (used' ++ rest)) (sym n) ∙ take_before used' rest)) d);
-      rest = ap (λ k. drop k (used' ++ rest)) (sym n) ∙ (drop_before used' rest ∙ behind);
-    }
+-- Ok tells of no fault of an outlet
+ok_tells : (session : Result Tally SessionFault) (results : List (Option SinkFault)) (unsent : ℕ) (s : Status)
+    → TellsRun session results unsent s → s ≡ status.Ok → TellsOutlets results unsent status.Ok
+ok_tells (Ok tally) results unsent s tells ok = subst (λ (t : Status). TellsOutlets results unsent t) ok tells
+ok_tells (Err faults.ReadFault) results unsent s tells ok = let bad : status.ReadFault ≡ status.Ok = sym tells ∙ ok in absurd cc
+ok_tells (Err fault) results unsent s tells ok = let bad : status_for {A = Tally} (Err fault) ≡ status.Ok = sym tells ∙ ok in absurd cc
+
+-- commands that stay unpublished are so since the writer's heap refused some
+unsent_rose : (n before after : ℕ) → (HasStood before after → n ≡ 0) → 0 < n → Rose before after
+unsent_rose n before after sent some = elim (cases_lt after (one_more before)) [
+  | inl stood ↦ absurd (omega (arith, sent stood, some))
+  | inr rose ↦ rose
+]
+
+-- what wanted memory of one heap or of the output did so of the two heaps, the output and the outlets
+pub as_live : {O K : Type 0} (told_out : ToldBySink O) (told : ToldBySink K) (before after writers writers' : ℕ) (output output' : O)
+    (outlets outlets' : List (Option K)) (s : Status) → WantsMemory told_out before after output output' s
+    → WantsLive told_out told before after writers writers' output output' outlets outlets' s
+as_live told_out told before after writers writers' output output' outlets outlets' s wanted = λ is. elim (wanted is) [
+  | inl refused ↦ inl (inl refused)
+  | inr sink ↦ inr (inl sink)
+]
+
+-- and what did so by the last calls of a heap did so by all
+pub live_since : {O K : Type 0} (told_out : ToldBySink O) (told : ToldBySink K) (first before after writers writers' : ℕ) (output output' : O)
+    (outlets outlets' : List (Option K)) (s : Status) → first ≤ before
+    → WantsLive told_out told before after writers writers' output output' outlets outlets' s
+    → WantsLive told_out told first after writers writers' output output' outlets outlets' s
+live_since told_out told first before after writers writers' output output' outlets outlets' s held wanted = λ is. elim (wanted is) [
+  | inl heaps ↦ elim heaps [
+    | inl refused ↦ inl (inl (rose_since first before after held refused))
+    | inr writer ↦ inl (inr writer)
+  ]
+  | inr sinks ↦ inr sinks
+]
+
+-- Outlets that a run wrote to: those in use are the first, and the others stand behind them.
+module _ {K : Type 0} (told : ToldBySink K) (show : Show) (universes : ℕ) (outlets used used' rest : List (Option K))
+    (results : List (Option SinkFault)) (published : List Command) (is : used ≡ take universes outlets) (count : length used ≡ universes)
+    (d : AreDelivered told show used used' results published) where
+  back : (place : ℕ) (start : K) → place < universes → slice_get outlets place ≡ Some (Some start)
+      → OutletIsBack told show (used' ++ rest) results published place start
+  back place start within at =
+      let b = d.each place start (ap (λ l. slice_get l place) is ∙ (get_take universes place outlets within ∙ at)) in
+      record {
+        new = b.new;
+        fault = b.fault;
+        place_is = get_before used' rest place (omega (arith, within, count, d.same_places)) ∙ b.place_is;
+        fault_is = b.fault_is;
+        delivered = b.delivered;
+      }
+
+  -- their lines are those of the list that was published
+  versions_of : ((place : ℕ) (fault : Option SinkFault) → slice_get results place ≡ Some fault → fault ≡ None)
+      → HaveVersions told show universes outlets (used' ++ rest) published
+  versions_of none = λ place start within at.
+      let b = back place start within at in
+      record { new = b.new; place_is = b.place_is; all = b.delivered.whole (none place b.fault b.fault_is) }
+
+  -- the outlets in use got what they were to get, and the others are as they were
+  abbrev have_got : rest ≡ drop universes outlets → HaveGot told show universes outlets (used' ++ rest) published
+  have_got behind =
+      let n : length used' ≡ universes = d.same_places ∙ count in
+      record {
+        results = results;
+        delivered = subst (λ (u : List (Option K)). AreDelivered told show u (take universes (used' ++ rest)) results
+            published) is (subst (λ (u : List (Option K)). AreDelivered told show used u results published)
+            (sym (ap (λ k. take k (used' ++ rest)) (sym n) ∙ take_before used' rest)) d);
+        rest = drop_at used' rest universes n ∙ behind;
+      }
+
+  -- one with a fault failed at a write, or was out of memory
+  module _ (most : universes ≤ length outlets) (full : IsFull outlets) where
+    at_fault : (place : ℕ) (fault : SinkFault) → slice_get results place ≡ Some (Some fault) → (place < universes) × (start : K)
+        × (slice_get outlets place ≡ Some (Some start))
+    at_fault place fault at =
+        let within : place < universes = omega (arith, d.others place fault at, count) in
+        let from = full_sink outlets full place (omega (arith, within, most)) in
+        (within, from.0, from.1)
+
+    failed_at : (place : ℕ) → slice_get results place ≡ Some (Some sinks.Failed) → OutletFailed told outlets (used' ++ rest)
+    failed_at place at =
+        let from = at_fault place sinks.Failed at in
+        let b = back place from.1 from.0 from.2 in
+        record {
+          place = place;
+          start = from.1;
+          new = b.new;
+          before = from.2;
+          after = b.place_is;
+          rose = b.delivered.cause.failed (same_Some b.fault (Some sinks.Failed) (sym b.fault_is ∙ at));
+        }
+
+    outlet_wanted : (place : ℕ) → slice_get results place ≡ Some (Some sinks.Memory) → OutletWanted told outlets (used' ++ rest)
+    outlet_wanted place at =
+        let from = at_fault place sinks.Memory at in
+        let b = back place from.1 from.0 from.2 in
+        record {
+          place = place;
+          start = from.1;
+          new = b.new;
+          before = from.2;
+          after = b.place_is;
+          rose = b.delivered.cause.memory (same_Some b.fault (Some sinks.Memory) (sym b.fault_is ∙ at));
+        }
+
+    -- each fault of the outside has its cause
+    live_cause : {S O : Type 0} (told_in : ToldBySource S) (told_out : ToldBySink O) (old new : Lines S) (output output' : O) (n : ℕ)
+        (session : Result Tally SessionFault) (s : Status) → TellsRun session results n s
+        → HasSessionCause told_in told_out old new output output' session
+        → HasLiveCause told s (told_in.faults old.source.now) (told_in.faults new.source.now) (told_out.faults output) (told_out.faults output')
+        outlets (used' ++ rest)
+    live_cause told_in told_out old new output output' n (Ok tally) status.Ok tells c = tt
+    live_cause told_in told_out old new output output' n (Ok tally) status.WriteFault tells c = (inr (failed_at tells.0 tells.1), c.kept.0)
+    live_cause told_in told_out old new output output' n (Ok tally) status.Memory tells c = c.kept.0
+    live_cause told_in told_out old new output output' n (Ok tally) s tells c = absurd tells
+    live_cause told_in told_out old new output output' n (Err fault) s tells c =
+        subst (λ (t : Status). HasLiveCause told t (told_in.faults old.source.now) (told_in.faults new.source.now) (told_out.faults output)
+        (told_out.faults output') outlets (used' ++ rest)) (sym tells)
+        (as_live_cause told (status_for {A = Tally} (Err fault)) (told_in.faults old.source.now) (told_in.faults new.source.now)
+        (told_out.faults output) (told_out.faults output') outlets (used' ++ rest) (has_cause told_in told_out old new output output' (Err fault) c))
+
+    -- and memory that was wanted has it, too
+    live_wanted : {S O : Type 0} (told_in : ToldBySource S) (told_out : ToldBySink O) (old new : Lines S) (output output' : O)
+        (n before after writers writers' : ℕ) (session : Result Tally SessionFault) (s : Status) → TellsRun session results n s
+        → HasSessionCause told_in told_out old new output output' session → (HasStood writers writers' → n ≡ 0)
+        → WantsLive told_out told before after writers writers' output output' outlets (used' ++ rest) s
+    live_wanted told_in told_out old new output output' n before after writers writers' (Ok tally) s tells c sent = λ memory.
+        let lacks : LacksMemory results n = subst (λ (t : Status). TellsOutlets results n t) memory tells in
+        elim lacks.wanted [
+          | inl at ↦ inr (inr (outlet_wanted at.0 at.1))
+          | inr some ↦ inl (inr (unsent_rose n writers writers' sent some))
+        ]
+    live_wanted told_in told_out old new output output' n before after writers writers' (Err fault) s tells c sent =
+        as_live told_out told before after writers writers' output output' outlets (used' ++ rest) s
+        (subst (λ (t : Status). WantsMemory told_out before after output output' t) (sym tells)
+        (session_wanted told_in told_out before after old new output output' (Err fault) c))
+
+  outlets_finish : (n : ℕ) (session : Result Tally SessionFault) (s : Status) → TellsRun session results n s
+      → OutletsFinish told universes outlets (used' ++ rest) s
+  outlets_finish n session s tells ok place start within at =
+      let b = back place start within at in
+      let none : b.fault ≡ None = (ok_tells session results n s tells ok).1 place b.fault b.fault_is in
+      let kept = b.delivered.cause.kept none in
+      record {
+        new = b.new;
+        place_is = b.place_is;
+        writes_kept = kept.0;
+        wants_kept = kept.1;
+        handed_on = b.delivered.handed_on none;
+      }
 
 -- the console stands for the desk after the commands that are published, and then the unsent ones
 abbrev Done : Show → (published unsent : List Command) → Kept → DeskState → Type 0
@@ -223,7 +358,7 @@ plays ample told show universes script held held' outlets used used' rest result
       text = subst (λ (s : Session DeskState). Appends held held' s.text) live.same a.text;
       versions = subst (λ (l : List Command). HaveVersions told show universes outlets (used' ++ rest) l)
           (sym (live.accepted ∙ none_held published unsent n counted ok.0))
-          (versions_of told show universes outlets used used' rest results published is count ok.1 d);
+          (versions_of told show universes outlets used used' rest results published is count d ok.1);
     }
 
 -- the session's own fault is told first
@@ -232,10 +367,9 @@ session_order : {S O K : Type 0} (told_in : ToldBySource S) (told : ToldBySink O
     → HasSessionCause {T = Tally} told_in told old new output output' (Err fault)
     → DecidesInOrder (status_for {A = Tally} (Err fault)) (told_in.faults old.source.now) (told_in.faults new.source.now) told output output' outlets
     outlets' ToEnd
-session_order told_in told old new output output' outlets outlets' ToEnd faults.ReadFault c = tt
 session_order told_in told old new output output' outlets outlets' ToEnd faults.WriteFault c = inl c.failed
-session_order told_in told old new output output' outlets outlets' ToEnd faults.InputTooLong c = tt
 session_order told_in told old new output output' outlets outlets' ToEnd faults.Memory c = inl (inr c.failed)
+session_order told_in told old new output output' outlets outlets' ToEnd fault c = tt
 
 -- how a session that was played ended, by its status
 module _ {K : Type 0} (ample : AmpleMemory) (outlet_told : ToldBySink K) (show : Show) (universes before : ℕ)
@@ -247,7 +381,7 @@ module _ {K : Type 0} (ample : AmpleMemory) (outlet_told : ToldBySink K) (show :
   none_left known = none_unsent unsent n counted (sent known)
 
   abbrev got : HaveGot outlet_told show universes outlets (used' ++ rest) published
-  got = have_got outlet_told show universes outlets used used' rest results published is count behind d
+  got = have_got outlet_told show universes outlets used used' rest results published is count d behind
 
   whole : (bytes : List ℕ) (held held' : Option (List ℕ)) (console : Kept) (tally : Tally)
       → AnsweredWhole (engine_of ample.edits published unsent) (Done show published unsent console) (begun (opened show)) (lines_of bytes) held held' tally
@@ -267,18 +401,14 @@ module _ {K : Type 0} (ample : AmpleMemory) (outlet_told : ToldBySink K) (show :
   )
   live_at bytes unread left held held' console (Ok tally) status.WriteFault tells a limit = whole bytes held held' console tally a
   live_at bytes unread left held held' console (Ok tally) status.Memory tells a limit = inr (whole bytes held held' console tally a)
-  live_at bytes unread left held held' console (Ok tally) status.ShowRefused tells a limit = absurd tells
-  live_at bytes unread left held held' console (Ok tally) status.Usage tells a limit = absurd tells
-  live_at bytes unread left held held' console (Ok tally) status.ReadFault tells a limit = absurd tells
-  live_at bytes unread left held held' console (Ok tally) status.InputTooLong tells a limit = absurd tells
-  live_at bytes unread left held held' console (Ok tally) status.Live tells a limit = absurd tells
+  live_at bytes unread left held held' console (Ok tally) s tells a limit = absurd tells
   live_at bytes unread left held held' console (Err fault) s tells a limit =
       subst (λ (t : Status). HasPlayedLive ample t outlet_told show universes before bytes left held held' outlets (used' ++ rest)) (sym tells)
       (live_fault ample outlet_told show universes outlets (used' ++ rest) published unsent got none_left before bytes unread left held held'
       console fault a limit)
 
   -- the same, where the source may tell no bytes
-  pub has_played_live : (o unread left held held' : Option (List ℕ)) (console : Kept) (session : Result Tally SessionFault) (s : Status)
+  has_played_live : (o unread left held held' : Option (List ℕ)) (console : Kept) (session : Result Tally SessionFault) (s : Status)
       → TellsRun session results n s
       → IfSome o (λ bytes. HasAnswered ample.edits show published unsent console before bytes unread left held held' session)
       → IfSome o (λ bytes. KeepsLimit before bytes session)
@@ -319,23 +449,14 @@ module _ {K : Type 0} (ample : AmpleMemory) (outlet_told : ToldBySink K) (show :
         record { reads_kept = c.kept.0; writes_kept = c.kept.1; wants_kept = c.kept.2; handed_on = none },
         (to_end LacksMemory bytes held held' console tally a (subst (λ k. LacksMemory results k) counted tells), limit),
       )
-  order_at told_in told_out old new output output' bytes unread left held held' console (Ok tally) status.Ok tells a limit c none = tt
-  order_at told_in told_out old new output output' bytes unread left held held' console (Ok tally) status.ShowRefused tells a limit
-      c none = tt
-  order_at told_in told_out old new output output' bytes unread left held held' console (Ok tally) status.Usage tells a limit c none =
-      tt
-  order_at told_in told_out old new output output' bytes unread left held held' console (Ok tally) status.ReadFault tells a limit
-      c none = tt
-  order_at told_in told_out old new output output' bytes unread left held held' console (Ok tally) status.InputTooLong tells a
-      limit c none = tt
-  order_at told_in told_out old new output output' bytes unread left held held' console (Ok tally) status.Live tells a limit c none = tt
+  order_at told_in told_out old new output output' bytes unread left held held' console (Ok tally) s tells a limit c none = tt
   order_at told_in told_out old new output output' bytes unread left held held' console (Err fault) s tells a limit c none =
       subst (λ (t : Status). DecidesInOrder t (told_in.faults old.source.now) (told_in.faults new.source.now) told_out output output' outlets
       (used' ++ rest) (λ Told. PlaysToEnd ample Told outlet_told show universes (lines_of bytes) held held' outlets (used' ++ rest)
       × (before + length (bytes_wanted bytes) ≤ INPUT_BYTES))) (sym tells)
       (session_order told_in told_out old new output output' outlets (used' ++ rest) _ fault c)
 
-  pub in_order : {S O : Type 0} (told_in : ToldBySource S) (told_out : ToldBySink O) (old new : Lines S) (output output' : O)
+  in_order : {S O : Type 0} (told_in : ToldBySource S) (told_out : ToldBySink O) (old new : Lines S) (output output' : O)
       (o unread left held held' : Option (List ℕ)) (console : Kept) (session : Result Tally SessionFault) (s : Status)
       → TellsRun session results n s
       → IfSome o (λ bytes. HasAnswered ample.edits show published unsent console before bytes unread left held held' session)
@@ -349,7 +470,7 @@ module _ {K : Type 0} (ample : AmpleMemory) (outlet_told : ToldBySink K) (show :
       held' console session s tells outcome keeps c none)
 
 -- a live run whose session had no fault is done where it tells none of the outlets
-pub run_finishes : {S O : Type 0} (told_in : ToldBySource S) (told_out : ToldBySink O) (old new : Lines S) (output output' : O)
+run_finishes : {S O : Type 0} (told_in : ToldBySource S) (told_out : ToldBySink O) (old new : Lines S) (output output' : O)
     (session : Result Tally SessionFault) (results : List (Option SinkFault)) (n : ℕ) (s : Status) → TellsRun session results n s
     → HasSessionCause told_in told_out old new output output' session → HandsOnReplies session (told_out.back output')
     → Finishes (told_in.faults old.source.now) (told_in.faults new.source.now) told_out output output' s
@@ -359,202 +480,79 @@ run_finishes told_in told_out old new output output' (Err fault) results n s tel
     subst (λ (t : Status). Finishes (told_in.faults old.source.now) (told_in.faults new.source.now) told_out output output' t) (sym tells)
     (session_finishes told_in told_out old new output output' (Err fault) c none)
 
--- where memory was wanted at the opening, nothing was read
-pub same_reads : {S : Type 0} (told : ToldBySource S) (old new : Lines S) → new ≡ old → told.faults new.source.now ≡ told.faults old.source.now
-same_reads {S = S} told old new same = ap (λ (l : Lines S). told.faults l.source.now) same
+-- where memory was wanted at the opening, nothing was read or written
+none_played : {K : Type 0} (ample : AmpleMemory) (told : ToldBySink K) (show : Show) (universes before : ℕ) (o left held : Option (List ℕ))
+    (outlets : List (Option K)) → IfSome o (λ bytes. HasPlayedLive ample status.Memory told show universes before bytes left held held outlets outlets)
+none_played ample told show universes before None left held outlets = tt
+none_played ample told show universes before (Some bytes) left held outlets = inl (refl, refl)
 
-pub none_played : {K : Type 0} (ample : AmpleMemory) (told : ToldBySink K) (show : Show) (universes before : ℕ)
-    (o left held held' : Option (List ℕ)) (outlets outlets' : List (Option K)) → held' ≡ held → outlets' ≡ outlets
-    → IfSome o (λ bytes. HasPlayedLive ample status.Memory told show universes before bytes left held held' outlets outlets')
-none_played ample told show universes before None left held held' outlets outlets' same kept = tt
-none_played ample told show universes before (Some bytes) left held held' outlets outlets' same kept = inl (same, kept)
+none_ordered : {O K : Type 0} (o : Option (List ℕ)) (reads reads' : ℕ) (told : ToldBySink O) (output : O) (outlets : List (Option K))
+    (ToEnd : List ℕ → (List (Option SinkFault) → ℕ → Type 0) → Type 0)
+    → IfSome o (λ bytes. DecidesInOrder status.Memory reads reads' told output output outlets outlets (ToEnd bytes))
+none_ordered None reads reads' told output outlets ToEnd = tt
+none_ordered (Some bytes) reads reads' told output outlets ToEnd = inl (inl (refl, refl))
 
-pub none_ordered : {O K : Type 0} (o : Option (List ℕ)) (reads reads' : ℕ) (told : ToldBySink O) (output output' : O)
-    (outlets outlets' : List (Option K)) (ToEnd : List ℕ → (List (Option SinkFault) → ℕ → Type 0) → Type 0)
-    → output' ≡ output → outlets' ≡ outlets
-    → IfSome o (λ bytes. DecidesInOrder status.Memory reads reads' told output output' outlets outlets' (ToEnd bytes))
-none_ordered None reads reads' told output output' outlets outlets' ToEnd same kept = tt
-none_ordered (Some bytes) reads reads' told output output' outlets outlets' ToEnd same kept = inl (inl (same, kept))
+pub none_plays : {S O K : Type 0} (told_in : ToldBySource S) (told_out : ToldBySink O) (told : ToldBySink K) (before after writers writers' : ℕ)
+    (show : Show) (universes : ℕ) (lines lines' : Lines S) (output output' : O) (outlets outlets' : List (Option K)) → lines' ≡ lines
+    → output' ≡ output → outlets' ≡ outlets → before ≤ after → writers ≤ writers' → Rose before after ⊎ Rose writers writers'
+    → PlaysLive told_in told_out told before after writers writers' show universes lines lines' output output' outlets outlets' status.Memory
+none_plays told_in told_out told before after writers writers' show universes lines lines' output output' outlets outlets' unread_on unwritten
+    unplayed later writers_later short = rw unread_on (rw unwritten (rw unplayed (record {
+      works = tt;
+      played = inl refl;
+      finish = λ ok place start within at. absurd cc;
+      ended = λ ample stood sent. none_played ample told show universes lines.taken (unread told_in lines) (told_in.left lines.source.now)
+          (told_out.holds output) outlets;
+      later = omega arith;
+      cause = refl;
+      order = λ ample stood sent. none_ordered (unread told_in lines) (told_in.faults lines.source.now) (told_in.faults lines.source.now) told_out
+          output outlets (λ bytes Told. PlaysToEnd ample Told told show universes (lines_of bytes) (told_out.holds output) (told_out.holds output)
+          outlets outlets × (lines.taken + length (bytes_wanted bytes) ≤ INPUT_BYTES));
+      finished = not_done (told_in.faults lines.source.now) (told_in.faults lines.source.now) told_out output output status.Memory (λ done. done)
+          (λ other. other);
+      wanted = λ is. inl short;
+      heap_later = later;
+      writers_later = writers_later;
+    })))
 
--- the outlets in use were played, and the others are as they were
-pub are_played : {K : Type 0} (told : ToldBySink K) (show : Show) (universes : ℕ)
-    (outlets used used' rest : List (Option K)) (results : List (Option SinkFault)) (published : List Command)
-    → used ≡ take universes outlets → length used ≡ universes → rest ≡ drop universes outlets
-    → AreDelivered told show used used' results published → ArePlayed told universes outlets (used' ++ rest)
-are_played told show universes outlets used used' rest results published is count behind d = record {
-  show = show;
-  published = published;
-  got = have_got told show universes outlets used used' rest results published is count behind d;
-}
-
--- an outlet with a fault of the outside failed at a write
-failed_at : {K : Type 0} (told : ToldBySink K) (show : Show) (universes : ℕ)
-    (outlets used used' rest : List (Option K)) (results : List (Option SinkFault)) (published : List Command) (place : ℕ)
-    → used ≡ take universes outlets → length used ≡ universes → universes ≤ length outlets → IsFull outlets
-    → AreDelivered told show used used' results published
-    → slice_get results place ≡ Some (Some sinks.Failed) → OutletFailed told outlets (used' ++ rest)
-failed_at told show universes outlets used used' rest results published place is count most full d at =
-    let within : place < universes = omega (arith, d.others place sinks.Failed at, count) in
-    let from = full_sink outlets full place (omega (arith, within, most)) in
-    let back = d.each place from.0 (ap (λ l. slice_get l place) is ∙ (get_take universes place outlets within ∙ from.1)) in
+-- A live run of the first outlets, by a heap that had refused so much before the opening, before the run and after it.
+pub run_plays : {S O K : Type 0} (told_in : ToldBySource S) (told_out : ToldBySink O) (told : ToldBySink K)
+    (first before after writers writers' : ℕ) (show : Show) (universes : ℕ) (old new : Lines S) (output output' : O)
+    (outlets used used' rest : List (Option K)) (console : Kept) (session : Result Tally SessionFault) (results : List (Option SinkFault)) (n : ℕ)
+    (s : Status) → used ≡ take universes outlets → length used ≡ universes → rest ≡ drop universes outlets → universes ≤ length outlets
+    → IsFull outlets → first ≤ before → before ≤ after → writers ≤ writers'
+    → ByMemory before after (λ ample. HasPlayedScript ample told_in told_out told show old new output output' used used' console session results n)
+    → (HasStood writers writers' → n ≡ 0) → IfSome (unread told_in old) (λ bytes. KeepsLimit (bytes_taken old) bytes session)
+    → HasSessionCause told_in told_out old new output output' session → HandsOnReplies session (told_out.back output')
+    → TellsRun session results n s
+    → PlaysLive told_in told_out told first after writers writers' show universes old new output output' outlets (used' ++ rest) s
+run_plays told_in told_out told first before after writers writers' show universes old new output output' outlets used used' rest console session
+    results n s is count behind most full opened held heard played sent limit cause none tells =
+    let any = played false (λ no. absurd cc) in
     record {
-      place = place;
-      start = from.0;
-      new = back.new;
-      before = from.1;
-      after = get_before used' rest place (omega (arith, within, count, d.same_places)) ∙ back.place_is;
-      rose = back.delivered.cause.failed (same_Some back.fault (Some sinks.Failed) (sym back.fault_is ∙ at));
+      works = run_ends session results n s tells;
+      played = inr (record {
+        show = show;
+        published = any.published;
+        got = have_got told show universes outlets used used' rest results any.published is count any.outlets_are behind;
+      });
+      finish = outlets_finish told show universes outlets used used' rest results any.published is count any.outlets_are n session s tells;
+      ended = λ ample stood known.
+          let p = played ample.edits (λ sure. stood_since first before after opened (stood sure)) in
+          has_played_live ample told show universes old.taken outlets used used' rest results p.published p.held_back n is count behind p.unsent_is
+          p.outlets_are (λ sure. sent (known sure)) (unread told_in old) (unread told_in new) (told_in.left new.source.now) (told_out.holds output)
+          (told_out.holds output') console session s tells p.session_is limit;
+      later = cause.later;
+      cause = live_cause told show universes outlets used used' rest results any.published is count any.outlets_are most full told_in told_out old
+          new output output' n session s tells cause;
+      order = λ ample stood known.
+          let p = played ample.edits (λ sure. stood_since first before after opened (stood sure)) in
+          in_order ample told show universes old.taken outlets used used' rest results p.published p.held_back n is count behind p.unsent_is
+          p.outlets_are (λ sure. sent (known sure)) told_in told_out old new output output' (unread told_in old) (unread told_in new)
+          (told_in.left new.source.now) (told_out.holds output) (told_out.holds output') console session s tells p.session_is limit cause none;
+      finished = run_finishes told_in told_out old new output output' session results n s tells cause none;
+      wanted = live_wanted told show universes outlets used used' rest results any.published is count any.outlets_are most full told_in told_out
+          old new output output' n first after writers writers' session s tells cause sent;
+      heap_later = omega (arith, opened, held);
+      writers_later = heard;
     }
-
-session_cause : {S O K : Type 0} (told_in : ToldBySource S) (told_out : ToldBySink O) (told : ToldBySink K) (old new : Lines S) (output output' : O)
-    (outlets outlets' : List (Option K)) (fault : SessionFault) → HasSessionCause {T = Tally} told_in told_out old new output output' (Err fault)
-    → HasLiveCause told (status_for {A = Tally} (Err fault)) (told_in.faults old.source.now) (told_in.faults new.source.now) (told_out.faults output)
-    (told_out.faults output') outlets outlets'
-session_cause told_in told_out told old new output output' outlets outlets' fault c =
-    as_live_cause told (status_for {A = Tally} (Err fault)) (told_in.faults old.source.now) (told_in.faults new.source.now)
-    (told_out.faults output) (told_out.faults output') outlets outlets' (has_cause told_in told_out old new output output' (Err fault) c)
-
--- each fault of the outside has its cause
-pub live_cause : {S O K : Type 0} (told_in : ToldBySource S) (told_out : ToldBySink O) (told : ToldBySink K)
-    (old new : Lines S) (output output' : O) (show : Show) (universes : ℕ) (outlets used used' rest : List (Option K))
-    (results : List (Option SinkFault)) (published : List Command) (n : ℕ)
-    (session : Result Tally SessionFault) (s : Status) → used ≡ take universes outlets → length used ≡ universes
-    → universes ≤ length outlets → IsFull outlets → AreDelivered told show used used' results published
-    → TellsRun session results n s → HasSessionCause told_in told_out old new output output' session
-    → HasLiveCause told s (told_in.faults old.source.now) (told_in.faults new.source.now) (told_out.faults output) (told_out.faults output')
-    outlets (used' ++ rest)
-live_cause told_in told_out told old new output output' show universes outlets used used' rest results published n
-    (Ok tally) status.Ok is count most full d tells c = tt
-live_cause told_in told_out told old new output output' show universes outlets used used' rest results published n
-    (Ok tally) status.WriteFault is count most full d tells c =
-    (inr (failed_at told show universes outlets used used' rest results published tells.0 is count most full d tells.1), c.kept.0)
-live_cause told_in told_out told old new output output' show universes outlets used used' rest results published n
-    (Ok tally) status.Memory is count most full d tells c = c.kept.0
-live_cause told_in told_out told old new output output' show universes outlets used used' rest results published n
-    (Ok tally) status.ShowRefused is count most full d tells c = tt
-live_cause told_in told_out told old new output output' show universes outlets used used' rest results published n
-    (Ok tally) status.Usage is count most full d tells c = tt
-live_cause told_in told_out told old new output output' show universes outlets used used' rest results published n
-    (Ok tally) status.ReadFault is count most full d tells c = absurd tells
-live_cause told_in told_out told old new output output' show universes outlets used used' rest results published n
-    (Ok tally) status.InputTooLong is count most full d tells c = absurd tells
-live_cause told_in told_out told old new output output' show universes outlets used used' rest results published n
-    (Ok tally) status.Live is count most full d tells c = tt
-live_cause told_in told_out told old new output output' show universes outlets used used' rest results published n
-    (Err fault) s is count most full d tells c =
-    subst (λ (t : Status). HasLiveCause told t (told_in.faults old.source.now) (told_in.faults new.source.now) (told_out.faults output)
-    (told_out.faults output') outlets
-    (used' ++ rest)) (sym tells) (session_cause told_in told_out told old new output output' outlets (used' ++ rest) fault c)
-
--- no live run ends as words that name none
-pub not_usage : (session : Result Tally SessionFault) (results : List (Option SinkFault)) (unsent : ℕ) (s : Status)
-    → TellsRun session results unsent s → s ≢ status.Usage
-not_usage (Ok tally) results unsent s tells = λ e. subst (λ (t : Status). TellsOutlets results unsent t) e tells
-not_usage (Err faults.ReadFault) results unsent s tells = λ e. let bad : status.ReadFault ≡ status.Usage = sym tells ∙ e in absurd cc
-not_usage (Err faults.WriteFault) results unsent s tells = λ e. let bad : status.WriteFault ≡ status.Usage = sym tells ∙ e in absurd cc
-not_usage (Err faults.InputTooLong) results unsent s tells = λ e. let bad : status.InputTooLong ≡ status.Usage = sym tells ∙ e in absurd cc
-not_usage (Err faults.Memory) results unsent s tells = λ e. let bad : status.Memory ≡ status.Usage = sym tells ∙ e in absurd cc
-
-pub not_live : (session : Result Tally SessionFault) (results : List (Option SinkFault)) (unsent : ℕ) (s : Status)
-    → TellsRun session results unsent s → s ≢ status.Live
-not_live (Ok tally) results unsent s tells = λ e. subst (λ (t : Status). TellsOutlets results unsent t) e tells
-not_live (Err faults.ReadFault) results unsent s tells = λ e. let bad : status.ReadFault ≡ status.Live = sym tells ∙ e in absurd cc
-not_live (Err faults.WriteFault) results unsent s tells = λ e. let bad : status.WriteFault ≡ status.Live = sym tells ∙ e in absurd cc
-not_live (Err faults.InputTooLong) results unsent s tells = λ e. let bad : status.InputTooLong ≡ status.Live = sym tells ∙ e in absurd cc
-not_live (Err faults.Memory) results unsent s tells = λ e. let bad : status.Memory ≡ status.Live = sym tells ∙ e in absurd cc
-
--- Ok tells of no fault of an outlet
-ok_tells : (session : Result Tally SessionFault) (results : List (Option SinkFault)) (unsent : ℕ) (s : Status)
-    → TellsRun session results unsent s → s ≡ status.Ok → TellsOutlets results unsent status.Ok
-ok_tells (Ok tally) results unsent s tells ok = subst (λ (t : Status). TellsOutlets results unsent t) ok tells
-ok_tells (Err faults.ReadFault) results unsent s tells ok = let bad : status.ReadFault ≡ status.Ok = sym tells ∙ ok in absurd cc
-ok_tells (Err faults.WriteFault) results unsent s tells ok = let bad : status.WriteFault ≡ status.Ok = sym tells ∙ ok in absurd cc
-ok_tells (Err faults.InputTooLong) results unsent s tells ok = let bad : status.InputTooLong ≡ status.Ok = sym tells ∙ ok in absurd cc
-ok_tells (Err faults.Memory) results unsent s tells ok = let bad : status.Memory ≡ status.Ok = sym tells ∙ ok in absurd cc
-
-pub outlets_finish : {K : Type 0} (told : ToldBySink K) (show : Show) (universes : ℕ)
-    (outlets used used' rest : List (Option K)) (results : List (Option SinkFault)) (published : List Command) (unsent : ℕ)
-    (session : Result Tally SessionFault) (s : Status) → used ≡ take universes outlets → length used ≡ universes
-    → AreDelivered told show used used' results published → TellsRun session results unsent s
-    → OutletsFinish told universes outlets (used' ++ rest) s
-outlets_finish told show universes outlets used used' rest results published unsent session s is count d tells ok place start within at =
-    let back = d.each place start (ap (λ l. slice_get l place) is ∙ (get_take universes place outlets within ∙ at)) in
-    let none : back.fault ≡ None = (ok_tells session results unsent s tells ok).1 place back.fault back.fault_is in
-    let kept = back.delivered.cause.kept none in
-    record {
-      new = back.new;
-      place_is = get_before used' rest place (omega (arith, within, count, d.same_places)) ∙ back.place_is;
-      writes_kept = kept.0;
-      wants_kept = kept.1;
-      handed_on = back.delivered.handed_on none;
-    }
-
--- an outlet that was out of memory
-outlet_wanted : {K : Type 0} (told : ToldBySink K) (show : Show) (universes : ℕ)
-    (outlets used used' rest : List (Option K)) (results : List (Option SinkFault)) (published : List Command) (place : ℕ)
-    → used ≡ take universes outlets → length used ≡ universes → universes ≤ length outlets → IsFull outlets
-    → AreDelivered told show used used' results published
-    → slice_get results place ≡ Some (Some sinks.Memory) → OutletWanted told outlets (used' ++ rest)
-outlet_wanted told show universes outlets used used' rest results published place is count most full d at =
-    let within : place < universes = omega (arith, d.others place sinks.Memory at, count) in
-    let from = full_sink outlets full place (omega (arith, within, most)) in
-    let back = d.each place from.0 (ap (λ l. slice_get l place) is ∙ (get_take universes place outlets within ∙ from.1)) in
-    record {
-      place = place;
-      start = from.0;
-      new = back.new;
-      before = from.1;
-      after = get_before used' rest place (omega (arith, within, count, d.same_places)) ∙ back.place_is;
-      rose = back.delivered.cause.memory (same_Some back.fault (Some sinks.Memory) (sym back.fault_is ∙ at));
-    }
-
--- commands that stay unpublished are so since the writer's heap refused some
-unsent_rose : (n before after : ℕ) → (HasStood before after → n ≡ 0) → 0 < n → Rose before after
-unsent_rose n before after sent some = elim (cases_lt after (one_more before)) [
-  | inl stood ↦ absurd (omega (arith, sent stood, some))
-  | inr rose ↦ rose
-]
-
--- what wanted memory of one heap or of the output did so of the two heaps, the output and the outlets
-pub as_live : {O K : Type 0} (told_out : ToldBySink O) (told : ToldBySink K) (before after writers writers' : ℕ) (output output' : O)
-    (outlets outlets' : List (Option K)) (s : Status) → WantsMemory told_out before after output output' s
-    → WantsLive told_out told before after writers writers' output output' outlets outlets' s
-as_live told_out told before after writers writers' output output' outlets outlets' s wanted = λ is. elim (wanted is) [
-  | inl refused ↦ inl (inl refused)
-  | inr sink ↦ inr (inl sink)
-]
-
--- and what did so by the last calls of a heap did so by all
-pub live_since : {O K : Type 0} (told_out : ToldBySink O) (told : ToldBySink K) (first before after writers writers' : ℕ) (output output' : O)
-    (outlets outlets' : List (Option K)) (s : Status) → first ≤ before
-    → WantsLive told_out told before after writers writers' output output' outlets outlets' s
-    → WantsLive told_out told first after writers writers' output output' outlets outlets' s
-live_since told_out told first before after writers writers' output output' outlets outlets' s held wanted = λ is. elim (wanted is) [
-  | inl heaps ↦ elim heaps [
-    | inl refused ↦ inl (inl (rose_since first before after held refused))
-    | inr writer ↦ inl (inr writer)
-  ]
-  | inr sinks ↦ inr sinks
-]
-
--- a live run that wanted memory
-pub live_wanted : {S O K : Type 0} (told_in : ToldBySource S) (told_out : ToldBySink O) (told : ToldBySink K)
-    (old new : Lines S) (output output' : O) (show : Show) (universes : ℕ) (outlets used used' rest : List (Option K))
-    (results : List (Option SinkFault)) (published : List Command) (n before after writers writers' : ℕ)
-    (session : Result Tally SessionFault) (s : Status) → used ≡ take universes outlets → length used ≡ universes
-    → universes ≤ length outlets → IsFull outlets → AreDelivered told show used used' results published
-    → TellsRun session results n s → HasSessionCause told_in told_out old new output output' session
-    → (HasStood writers writers' → n ≡ 0)
-    → WantsLive told_out told before after writers writers' output output' outlets (used' ++ rest) s
-live_wanted told_in told_out told old new output output' show universes outlets used used' rest results published n before after
-    writers writers' (Ok tally) s is count most full d tells c sent = λ memory.
-    let lacks : LacksMemory results n = subst (λ (t : Status). TellsOutlets results n t) memory tells in
-    elim lacks.wanted [
-      | inl at ↦ inr (inr (outlet_wanted told show universes outlets used used' rest results published at.0 is count most full d at.1))
-      | inr some ↦ inl (inr (unsent_rose n writers writers' sent some))
-    ]
-live_wanted told_in told_out told old new output output' show universes outlets used used' rest results published n before after
-    writers writers' (Err fault) s is count most full d tells c sent =
-    as_live told_out told before after writers writers' output output' outlets (used' ++ rest) s
-    (subst (λ (t : Status). WantsMemory told_out before after output output' t) (sym tells)
-    (session_wanted told_in told_out before after old new output output' (Err fault) c))

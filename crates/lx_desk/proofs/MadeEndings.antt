@@ -6,7 +6,7 @@ use Rattle.lx_desk.proofs.Imports.{Session, Counts, whole_session, Allows, bytes
 use Rattle.lx_desk.proofs.Imports.{fault_text, script_session, ScriptAllows, made_input, made_text, make_output, StandsFor, Tally, HasDone, AnsweredWhole}
 use Rattle.lx_desk.proofs.Imports.{Loaded, ShowFault, reading_of, HasRead, Status, WritesAll, RefusedBy, RefusesText, status_kept, EndsScript}
 use Rattle.lx_desk.proofs.Imports.{HasEndedBy, HasCauseOf, WritesWhole, ToldBySource, Bool, false, spared, WritesFront, JobFailures, ScriptFailures}
-use Rattle.lx_desk.proofs.Imports.{SessionFault, KeepsLimit, status_for}
+use Rattle.lx_desk.proofs.Imports.{SessionFault, KeepsLimit, status_for, Does, HasSessionCause, Refuses, source_faults, stood_since, ToldBySink}
 use Rattle.lx_session.specs.declared.fault.SessionFault.TheVariants as sessions
 use Rattle.lx_desk.proofs.AmpleFailures.{FailedSo, failed_so}
 use Rattle.lx_spec.specs.Output.{frame}
@@ -14,10 +14,14 @@ use Rattle.lx_session.specs.LineReply.{counts_in}
 use Rattle.lx_reader.specs.declared.fault.ShowFault.TheVariants as faults
 use Rattle.lx_desk.specs.declared.desk.Status.TheVariants as status
 use Rattle.lx_desk.specs.declared.make.Report.{Report}
-use Rattle.lx_desk.specs.Made.{HasTold, TellsSession, TellsInFront, report_of, report_text}
-use Rattle.lx_desk.proofs.Inputs.{Says, means_of, none_failed, script_over, front_nothing, over_loaded, refusal_fits, kept_is, if_known}
-use Rattle.lx_desk.proofs.Inputs.{both_known, none_of_job, none_of_script}
+use Rattle.lx_desk.specs.Made.{HasTold, TellsScript, TellsSession, TellsInFront, report_of, report_text}
+use Rattle.lx_desk.proofs.EmptyPrefixes.{unwritten, unwritten_as}
+use Rattle.lx_desk.proofs.Inputs.{Says, means_of, no_failures, script_over, front_nothing, over_loaded, refusal_fits, kept_is, if_known}
+use Rattle.lx_desk.proofs.Inputs.{both_known, by_kind, none_of_job, none_of_script}
 use Rattle.lx_desk.proofs.Inputs.{refusal_long, session_long, session_fits}
+use Rattle.lx_desk.proofs.Endings.{script_job, refusal_ends}
+use Rattle.lx_desk.proofs.Finishing.{beside_reads, dropped_finishes, never_wanted, not_done, refusal_wanted, wanted_since}
+use Rattle.lx_desk.proofs.Statuses.{dropped_cause, ends_script, refusal_cause}
 
 -- ---- the session
 
@@ -79,14 +83,9 @@ module _ (cues : ℕ) (heard : List Command → Type 0) (d : Desk) (dropped drop
       → IfSome o (λ bytes. HasTold ample s cues d taken bytes h h')
   session_told ample o taken s kinds whole front w fits =
       let part = session_front_told ample o front w in
-      elim kinds [
-        | inl ok ↦ subst (λ t. IfSome o (λ bytes. HasTold ample t cues d taken bytes h h')) (sym ok)
-            (both_known o _ _ _ w fits (λ x q f. (told ample (lines_of x) (whole ok) q, f)))
-        | inr fault ↦ elim fault [
-          | inl write ↦ subst (λ t. IfSome o (λ bytes. HasTold ample t cues d taken bytes h h')) (sym write) part
-          | inr memory ↦ subst (λ t. IfSome o (λ bytes. HasTold ample t cues d taken bytes h h')) (sym memory) part
-        ]
-      ]
+      by_kind status.Ok s
+      (λ t. (t ≡ status.Ok → Appends h h' (report_text r)) → IfSome o (λ bytes. HasTold ample t cues d taken bytes h h')) kinds
+      (λ all. both_known o _ _ _ w fits (λ x q f. (told ample (lines_of x) (all refl) q, f))) (λ all. part) (λ all. part) whole
 
 -- nothing was written about it
 pub nothing_told : (ample : Bool) (o a : Option (List ℕ)) (cues : ℕ) (d : Desk) → IfSome o (λ bytes. TellsInFront ample cues d (lines_of bytes) a a)
@@ -102,32 +101,68 @@ pub fault_told : (ample : Bool) (o a : Option (List ℕ)) (cues : ℕ) (d : Desk
     → IfSome o (λ bytes. KeepsLimit taken bytes (Err fault))
     → IfSome o (λ bytes. HasTold ample (status_for {A = Tally} (Err fault)) cues d taken bytes a a)
 fault_told ample o a cues d taken sessions.ReadFault limit = if_known o _ _ limit (λ x fits. refl)
-fault_told ample o a cues d taken sessions.WriteFault limit = nothing_told ample o a cues d
 fault_told ample o a cues d taken sessions.InputTooLong limit = if_known o _ _ limit (λ x long. (refl, long))
-fault_told ample o a cues d taken sessions.Memory limit = nothing_told ample o a cues d
+fault_told ample o a cues d taken fault limit = nothing_told ample o a cues d
+
+-- memory was short at the opening
+pub not_told : {S K : Type 0} (told_in : ToldBySource S) (told : ToldBySink K) (before after cues : ℕ) (d : Desk) (lines : Lines S) (output : K)
+    → before ≤ after → Rose before after → TellsScript told_in told before after cues d lines lines output output status.Memory
+not_told told_in told before after cues d lines output later rose = record {
+  works = tt;
+  ended = λ ample stood. nothing_told ample (unread told_in lines) (told.holds output) cues d;
+  front = nothing_told false (unread told_in lines) (told.holds output) cues d;
+  cause = refl;
+  finished = not_done (source_faults told_in lines) (source_faults told_in lines) told output output status.Memory (λ done. done) (λ other. other);
+  memory = λ is. inl refl;
+  wanted = λ is. inl rose;
+  later = later;
+}
+
+-- the session ended by a fault, beside an output that isn't written
+pub fault_tells : {S D K : Type 0} (told_in : ToldBySource S) (dropped : ToldBySink D) (told : ToldBySink K) (first before after cues : ℕ) (d : Desk)
+    (old new : Lines S) (sink sink' : D) (output : K) (fault : SessionFault) → dropped.faults sink' ≡ 0 → dropped.wants sink' ≡ 0 → first ≤ before
+    → before ≤ after → HasSessionCause {T = Tally} told_in dropped old new sink sink' (Err fault)
+    → IfSome (unread told_in old) (λ bytes. KeepsLimit old.taken bytes (Err fault))
+    → TellsScript told_in told first after cues d old new output output (status_for {A = Tally} (Err fault))
+fault_tells told_in dropped told first before after cues d old new sink sink' output fault unfailed unwanting opened held cause limit = record {
+  works = ends_script (Err fault);
+  ended = λ ample stood. fault_told ample (unread told_in old) (told.holds output) cues d old.taken fault limit;
+  front = nothing_told false (unread told_in old) (told.holds output) cues d;
+  cause = dropped_cause told_in dropped old new sink sink' fault (told.faults output) unfailed cause;
+  finished = dropped_finishes (source_faults told_in old) (source_faults told_in new) told output fault;
+  memory = λ is. inl refl;
+  wanted = λ is. absurd (never_wanted told_in dropped old new sink sink' fault unwanting cause is);
+  later = omega (arith, opened, held);
+}
 
 -- a source that never fails
 pub no_read_fault : (s : Status) (reads reads' writes writes' n : ℕ) → reads ≡ 0 → reads' ≡ 0 → HasCauseOf s reads reads' writes writes'
     → HasCauseOf s n n writes writes'
-no_read_fault status.Ok reads reads' writes writes' n none none' c = tt
-no_read_fault status.ShowRefused reads reads' writes writes' n none none' c = tt
-no_read_fault status.Usage reads reads' writes writes' n none none' c = tt
 no_read_fault status.ReadFault reads reads' writes writes' n none none' c = absurd (let rose : Rose reads reads' = c.0 in omega (arith, none, none', rose))
 no_read_fault status.WriteFault reads reads' writes writes' n none none' c = (c.0, refl)
 no_read_fault status.Memory reads reads' writes writes' n none none' c = refl
 no_read_fault status.InputTooLong reads reads' writes writes' n none none' c = (refl, c.1)
-no_read_fault status.Live reads reads' writes writes' n none none' c = tt
+no_read_fault s reads reads' writes writes' n none none' c = tt
 
 -- ---- the job
 
 -- no attempt failed
 made_unfailed : (ample : Bool) (n : ℕ) → JobFailures ample (Make n) [] []
-made_unfailed ample n = none_of_job ample (Make n) [] (none_failed Render (made_input n) (reads Moves (made_input n)))
+made_unfailed ample n = none_of_job ample (Make n) [] (no_failures (Make n) [])
 
--- nothing was written
-pub nothing_made : (ample : Bool) (n : ℕ) (h h' : Option (List ℕ)) → h' ≡ h → WritesFront ample (Make n) [] h h'
-nothing_made ample n h h' kept = subst (λ v. WritesFront ample (Make n) [] h v) (sym kept)
-    (record { failures = []; allows = made_unfailed ample n; text = front_nothing h (make_output n []) })
+-- memory was short before the input was made
+pub not_made : {K : Type 0} (told : ToldBySink K) (before after n : ℕ) (left : Option (List ℕ)) (reads : ℕ) (output : K) → before ≤ after
+    → Rose before after → Does told before after (Make n) (Some []) left reads reads output output status.Memory
+not_made told before after n left reads output later rose = record {
+  works = tt;
+  ended = λ ample stood. unwritten ample (Make n) [] (told.holds output);
+  prefix = unwritten false (Make n) [] (told.holds output);
+  cause = refl;
+  finished = not_done reads reads told output output status.Memory (λ done. done) (λ other. other);
+  memory = λ is. inl refl;
+  wanted = λ is. inl rose;
+  later = later;
+}
 
 -- Of the input that is made of a number, over lines that hand it out.
 module _ (n : ℕ) {S : Type 0} (told_in : ToldBySource S) (a b : Lines S) (is : unread told_in a ≡ Some (made_input n)) (none : a.taken ≡ 0)
@@ -187,8 +222,6 @@ module _ (n : ℕ) {S : Type 0} (told_in : ToldBySource S) (a b : Lines S) (is :
           },
           subst (λ (v : Result Reading TextFault). IsOk v) (sym read) refl,
         ))
-    made_ended ample loaded rest h h' status.ShowRefused r ends p = absurd ends
-    made_ended ample loaded rest h h' status.Usage r ends p = absurd ends
     made_ended ample loaded rest h h' status.ReadFault r ends p = over_made loaded _ _ r p (λ y read script t. t)
     made_ended ample loaded rest h h' status.WriteFault r ends p = made_front ample loaded h h' r p
     made_ended ample loaded rest h h' status.Memory r ends p = made_front ample loaded h h' r p
@@ -196,7 +229,7 @@ module _ (n : ℕ) {S : Type 0} (told_in : ToldBySource S) (a b : Lines S) (is :
       over_made loaded _ _ r p (λ y read script t. t.0),
       session_long Moves told_in a b loaded (Some (made_input n)) is none r (if_known (unread told_in b) _ _ p (λ z q. q.1)),
     )
-    made_ended ample loaded rest h h' status.Live r ends p = absurd ends
+    made_ended ample loaded rest h h' s r ends p = absurd ends
 
     -- a made show that isn't read
     fault_is : (fault : ShowFault) (h h' : Option (List ℕ)) (s : Status) → Says Moves told_in a b fault → (t : RefusesText h h' fault s)
@@ -242,7 +275,7 @@ module _ (n : ℕ) {S : Type 0} (told_in : ToldBySource S) (a b : Lines S) (is :
               status.InputTooLong is
               none said told refl,
         ))
-        (λ said told. nothing_made ample n h h' same) says by
+        (λ said told. unwritten_as ample (Make n) [] h h' same) says by
 
     pub made_refused : (ample : Bool) (rest h h' : Option (List ℕ)) (fault : ShowFault) (s : Status) → Says Moves told_in a b fault → RefusedBy h h' fault s
         → HasEndedBy ample s (Make n) [] rest h h'
@@ -260,4 +293,44 @@ module _ (n : ℕ) {S : Type 0} (told_in : ToldBySource S) (a b : Lines S) (is :
     pub made_refused_front : (ample : Bool) (h h' : Option (List ℕ)) (fault : ShowFault) (s : Status) → Says Moves told_in a b fault → RefusedBy h h' fault s
         → WritesFront ample (Make n) [] h h'
     made_refused_front ample h h' fault s says by =
-        elim by [ inl t ↦ refused_front ample fault h h' s says t | inr other ↦ nothing_made ample n h h' other.kept ]
+        elim by [ inl t ↦ refused_front ample fault h h' s says t | inr other ↦ unwritten_as ample (Make n) [] h h' other.kept ]
+
+    -- the job, where its show was read, and where it wasn't
+    pub made_does : {K : Type 0} (told : ToldBySink K) (first before after : ℕ) (loaded : Loaded) (d : Lines S) (rest : Option (List ℕ)) (reads : ℕ)
+        (output output' : K) (s : Status) → HasRead told_in a b Moves loaded → first ≤ before → source_faults told_in b ≡ 0
+        → source_faults told_in d ≡ 0 → TellsScript told_in told before after n (opened loaded.show) b d output output' s
+        → Does told first after (Make n) (Some []) rest reads reads output output' s
+    made_does told first before after loaded d rest reads output output' s r held none_before none_behind t =
+        let h = told.holds output in
+        let h' = told.holds output' in
+        record {
+          works = script_job s t.works;
+          ended = λ ample stood. made_ended ample loaded rest h h' s r t.works
+              (t.ended ample (λ known. stood_since first before after held (stood known)));
+          prefix = made_front false loaded h h' r t.front;
+          cause = no_read_fault s (source_faults told_in b) (source_faults told_in d) (told.faults output) (told.faults output') reads none_before
+              none_behind t.cause;
+          finished = beside_reads (source_faults told_in b) (source_faults told_in d) reads told output output' s t.finished;
+          memory = t.memory;
+          wanted = wanted_since told first before after output output' s held t.wanted;
+          later = let l = t.later in omega (arith, held, l);
+        }
+
+    pub refused_makes : {K : Type 0} (told : ToldBySink K) (first before : ℕ) (rest : Option (List ℕ)) (reads : ℕ) (output output' : K)
+        (fault : ShowFault) (s : Status) → Says Moves told_in a b fault → (fault ≡ faults.ReadFault → Rose 0 0)
+        → (fault ≡ faults.Memory → Rose first before) → first ≤ before → Refuses told fault output output' s
+        → Does told first before (Make n) (Some []) rest reads reads output output' s
+    refused_makes told first before rest reads output output' fault s says read short held t =
+        let h = told.holds output in
+        let h' = told.holds output' in
+        record {
+          works = refusal_ends h h' fault s t.refused;
+          ended = λ ample stood. made_refused ample rest h h' fault s says t.refused;
+          prefix = made_refused_front false h h' fault s says t.refused;
+          cause = no_read_fault s 0 0 (told.faults output) (told.faults output') reads refl refl
+              (refusal_cause told h h' fault s 0 0 output output' t.refused read (λ other. refl) t.write t.untouched);
+          finished = t.finished reads;
+          memory = t.memory;
+          wanted = refusal_wanted told first before output output' fault s short t.wanted;
+          later = held;
+        }

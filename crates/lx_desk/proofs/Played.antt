@@ -58,9 +58,8 @@ module _ (ample : Bool) (by : Answering (List ℕ)) (lawful : IsLawful by) (Stan
   answered_front before o unread left h h' (Ok tally) p =
       if_known o _ _ p (λ xs a. front_is (lines_of xs) h h' (whole_by (lines_of xs) h h' tally a))
   answered_front before o unread left h h' (Err faults.ReadFault) p = if_known o _ _ p (λ xs a. taken_front before xs left h h' a)
-  answered_front before o unread left h h' (Err faults.WriteFault) p = if_known o _ _ p (λ xs a. front_by xs unread h h' a)
   answered_front before o unread left h h' (Err faults.InputTooLong) p = if_known o _ _ p (λ xs a. taken_front before xs left h h' a)
-  answered_front before o unread left h h' (Err faults.Memory) p = if_known o _ _ p (λ xs a. front_by xs unread h h' a)
+  answered_front before o unread left h h' (Err fault) p = if_known o _ _ p (λ xs a. front_by xs unread h h' a)
 
   -- Where the script couldn't be read on, it answered what was taken of it.
   taken_by : (before : ℕ) (bytes : List ℕ) (left h h' : Option (List ℕ))
@@ -83,10 +82,9 @@ module _ (ample : Bool) (by : Answering (List ℕ)) (lawful : IsLawful by) (Stan
   has_played before o unread left h h' (Ok tally) p limit =
       both_known o _ _ _ p limit (λ xs a fits. (whole_by (lines_of xs) h h' tally a, fits))
   has_played before o unread left h h' (Err faults.ReadFault) p limit = if_known o _ _ p (λ xs a. taken_by before xs left h h' a)
-  has_played before o unread left h h' (Err faults.WriteFault) p limit = if_known o _ _ p (λ xs a. front_by xs unread h h' a)
   has_played before o unread left h h' (Err faults.InputTooLong) p limit =
       both_known o _ _ _ p limit (λ xs a long. (taken_by before xs left h h' a, long))
-  has_played before o unread left h h' (Err faults.Memory) p limit = if_known o _ _ p (λ xs a. front_by xs unread h h' a)
+  has_played before o unread left h h' (Err fault) p limit = if_known o _ _ p (λ xs a. front_by xs unread h h' a)
 
 module _ (by : Answering (List ℕ)) (lawful : IsLawful by) (Stands : by.State → Type 0) (state : by.State) where
   -- A session was held, by a heap that had refused so much before the opening, before the session and after it.

@@ -1,18 +1,16 @@
 -- What the status of a job says of its end and its cause.
 use Rattle.lx_desk.proofs.Imports.{◌≡◌, ◌≢◌, ◌⊎◌, inl, inr, refl, sym, ap, ◌∙◌, subst, arith, ℕ, Option, List, Result, Ok, Err, Lines, SessionFault}
 use Rattle.lx_desk.proofs.Imports.{Tally, HasSessionCause, Status, status_for, EndsScript, HasCauseOf, HasLiveCause, ToldBySink, ToldBySource, Rose}
-use Rattle.lx_desk.proofs.Imports.{ShowFault, RefusedBy}
+use Rattle.lx_desk.proofs.Imports.{ShowFault, RefusedBy, IsDone}
 use Rattle.lx_reader.specs.declared.fault.ShowFault.TheVariants as shows
 use Rattle.lx_session.specs.declared.fault.SessionFault.TheVariants as faults
 use Rattle.lx_desk.specs.declared.desk.Status.TheVariants as status
-use Rattle.lx_desk.proofs.Inputs.{kept_is}
+use Rattle.lx_desk.proofs.Inputs.{by_kind, kept_is}
 
 pub ends_script : (r : Result Tally SessionFault) → EndsScript (status_for r)
 ends_script (Ok tally) = tt
 ends_script (Err faults.ReadFault) = tt
-ends_script (Err faults.WriteFault) = tt
-ends_script (Err faults.InputTooLong) = tt
-ends_script (Err faults.Memory) = tt
+ends_script (Err fault) = tt
 
 pub has_cause : {S K : Type 0} (told_in : ToldBySource S) (told_out : ToldBySink K) (old new : Lines S) (sink sink' : K) (r : Result Tally SessionFault)
     → HasSessionCause told_in told_out old new sink sink' r
@@ -33,29 +31,19 @@ dropped_cause told_in told_out old new sink sink' faults.WriteFault writes none 
 dropped_cause told_in told_out old new sink sink' faults.InputTooLong writes none c = (c.alone.0, refl)
 dropped_cause told_in told_out old new sink sink' faults.Memory writes none c = c.alone
 
--- a text that was written, wholly or not, where no read failed
-pub told_cause : (s : Status) (reads reads' writes writes' : ℕ) → reads' ≡ reads
-    → (s ≡ status.Ok) ⊎ ((s ≡ status.WriteFault) ⊎ (s ≡ status.Memory)) → (s ≡ status.WriteFault → Rose writes writes')
-    → HasCauseOf s reads reads' writes writes'
-told_cause s reads reads' writes writes' kept kinds write = elim kinds [
-  | inl ok ↦ subst (λ x. HasCauseOf x reads reads' writes writes') (sym ok) tt
-  | inr fault ↦ elim fault [
-    | inl failed ↦ subst (λ x. HasCauseOf x reads reads' writes writes') (sym failed) (write failed, kept)
-    | inr memory ↦ subst (λ x. HasCauseOf x reads reads' writes writes') (sym memory) kept
-  ]
-]
+-- what was done needs no cause
+done_cause : (good : Status) (reads reads' writes writes' : ℕ) → IsDone good → HasCauseOf good reads reads' writes writes'
+done_cause status.Ok reads reads' writes writes' done = tt
+done_cause status.ShowRefused reads reads' writes writes' done = tt
+done_cause s reads reads' writes writes' done = absurd done
 
--- and the line of a show that is refused
-line_cause : (s : Status) (reads reads' writes writes' : ℕ) → reads' ≡ reads
-    → (s ≡ status.ShowRefused) ⊎ ((s ≡ status.WriteFault) ⊎ (s ≡ status.Memory)) → (s ≡ status.WriteFault → Rose writes writes')
+-- a text that was written, wholly or not, where no read failed
+pub told_cause : (good s : Status) (reads reads' writes writes' : ℕ) → IsDone good → reads' ≡ reads
+    → (s ≡ good) ⊎ ((s ≡ status.WriteFault) ⊎ (s ≡ status.Memory)) → (s ≡ status.WriteFault → Rose writes writes')
     → HasCauseOf s reads reads' writes writes'
-line_cause s reads reads' writes writes' kept kinds write = elim kinds [
-  | inl refused ↦ subst (λ x. HasCauseOf x reads reads' writes writes') (sym refused) tt
-  | inr fault ↦ elim fault [
-    | inl failed ↦ subst (λ x. HasCauseOf x reads reads' writes writes') (sym failed) (write failed, kept)
-    | inr memory ↦ subst (λ x. HasCauseOf x reads reads' writes writes') (sym memory) kept
-  ]
-]
+told_cause good s reads reads' writes writes' done kept kinds =
+    by_kind good s (λ t. (t ≡ status.WriteFault → Rose writes writes') → HasCauseOf t reads reads' writes writes') kinds
+    (λ write. done_cause good reads reads' writes writes' done) (λ write. (write refl, kept)) (λ write. kept)
 
 -- a show that isn't read
 pub refusal_cause : {K : Type 0} (told : ToldBySink K) (h h' : Option (List ℕ)) (fault : ShowFault) (s : Status) (reads reads' : ℕ)
@@ -64,7 +52,7 @@ pub refusal_cause : {K : Type 0} (told : ToldBySink K) (h h' : Option (List ℕ)
     → ((s ≡ status.ReadFault) ⊎ (s ≡ status.InputTooLong) → output' ≡ output)
     → HasCauseOf s reads reads' (told.faults output) (told.faults output')
 refusal_cause told h h' fault s reads reads' output output' by read kept write untouched = elim by [
-  | inl text ↦ line_cause s reads reads' (told.faults output) (told.faults output')
+  | inl text ↦ told_cause status.ShowRefused s reads reads' (told.faults output) (told.faults output') tt
       (kept (λ is. let odd : shows.Text text.text ≡ shows.ReadFault = sym text.told ∙ is in cc)) text.kinds write
   | inr other ↦ kept_is fault s (λ f t. (f ≡ shows.ReadFault → Rose reads reads') → (f ≢ shows.ReadFault → reads' ≡ reads)
       → ((t ≡ status.ReadFault) ⊎ (t ≡ status.InputTooLong) → output' ≡ output)
@@ -82,14 +70,8 @@ cause_behind s reads reads' reads'' writes writes' same c = subst (λ (n : ℕ).
 -- what has its cause as another job has it as a live run
 pub as_live_cause : {K : Type 0} (told : ToldBySink K) (s : Status) (reads reads' writes writes' : ℕ) (outlets outlets' : List (Option K))
     → HasCauseOf s reads reads' writes writes' → HasLiveCause told s reads reads' writes writes' outlets outlets'
-as_live_cause told status.ReadFault reads reads' writes writes' outlets outlets' c = c
 as_live_cause told status.WriteFault reads reads' writes writes' outlets outlets' c = (inl c.0, c.1)
-as_live_cause told status.InputTooLong reads reads' writes writes' outlets outlets' c = c
-as_live_cause told status.Memory reads reads' writes writes' outlets outlets' c = c
-as_live_cause told status.Ok reads reads' writes writes' outlets outlets' c = tt
-as_live_cause told status.ShowRefused reads reads' writes writes' outlets outlets' c = tt
-as_live_cause told status.Usage reads reads' writes writes' outlets outlets' c = tt
-as_live_cause told status.Live reads reads' writes writes' outlets outlets' c = tt
+as_live_cause told s reads reads' writes writes' outlets outlets' c = c
 
 pub live_behind : {K : Type 0} (told : ToldBySink K) (s : Status) (reads reads' reads'' writes writes' : ℕ) (outlets outlets' : List (Option K))
     → reads' ≡ reads → HasLiveCause told s reads' reads'' writes writes' outlets outlets'

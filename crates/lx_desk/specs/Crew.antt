@@ -4,7 +4,6 @@ use Rattle.std.specs.Prelude.{length, take, drop, slice_get}
 use Rattle.std.specs.Io.KnownBytes.{Appends}
 use Rattle.lx_base.specs.declared.TheConstants.{INPUT_BYTES}
 use Rattle.lx_io.specs.declared.sink.SinkFault.{SinkFault}
-use Rattle.lx_io.specs.declared.sink.SinkFault.TheVariants.{Failed, Memory}
 use Rattle.lx_io.specs.Causes.{Rose}
 use Rattle.lx_io.specs.Puts.{AppendsFront}
 use Rattle.lx_io.specs.Told.{ToldBySink, ToldBySource}
@@ -26,7 +25,10 @@ use Rattle.lx_crew.specs.CrewOutcome.{ScriptIsBack}
 use Rattle.lx_crew.specs.Transcripts.{AppendsAtLeast, CrewAllowsBy, TranscriptPrefix, all_but_last}
 use Rattle.lx_desk.specs.declared.desk.Status.{Status}
 use Rattle.lx_desk.specs.declared.desk.Status.TheVariants as status
-use Rattle.lx_desk.specs.Endings.{HasEnded}
+use Rattle.lx_session.specs.Spared.{ByMemory}
+use Rattle.lx_desk.specs.Endings.{EndsScript, HasEnded}
+use Rattle.lx_desk.specs.Finished.{Finishes, HasWanted}
+use Rattle.lx_desk.specs.Faults.{status_of_sink}
 
 -- no operator has a fault
 abbrev pub NoneTold : List (Option OperatorFault) → Type 0
@@ -166,8 +168,7 @@ TellsOperators told other = ⊥
 
 abbrev pub TellsCrew : Option SinkFault → List (Option OperatorFault) → Status → Type 0
 TellsCrew None told s = TellsOperators told s
-TellsCrew (Some Failed) told s = s ≡ status.WriteFault
-TellsCrew (Some Memory) told s = s ≡ status.Memory
+TellsCrew (Some fault) told s = s ≡ status_of_sink fault
 
 -- The heap refused some, or the queue's did, or the output itself was out of memory.
 abbrev pub CrewRunsShort : {K : Type 0} → ToldBySink K → (refusals refusals' queues queues' : ℕ) → (output output' : K) → Type 0
@@ -191,3 +192,22 @@ HandsOn told output output' s =
     (s ≡ status.ReadFault) ⊎ (s ≡ status.InputTooLong)
     → (output' ≡ output) ⊎ ((told.faults output' ≡ told.faults output)
     × ((told.wants output' ≡ told.wants output) × (told.back output' ≡ [])))
+
+-- What serving the operators over a show comes to, from an output to an output and from sources to sources, by two heaps whose counts of
+-- refusals went from one number to another.
+pub record ServesOver {S K : Type 0} (told : ToldBySource S) (told_out : ToldBySink K) (refusals refusals' queues queues' : ℕ) (show : Show)
+    (count : ℕ) (output output' : K) (operators operators' : List (Option S)) (s : Status) : Type 0 where
+  pub works : EndsScript s
+  pub places : KeepsPlaces count operators operators'
+  pub served : ByMemory refusals refusals' (λ ample. ServesOrWants ample told show count operators operators' (told_out.holds output)
+      (told_out.holds output') s)
+  pub prefix : WritesFirstLines told show count operators (told_out.holds output) (told_out.holds output')
+  pub read : s ≡ status.ReadFault → OperatorFailed told count operators operators'
+  pub write : s ≡ status.WriteFault → Rose (told_out.faults output) (told_out.faults output')
+  pub finished : (reads : ℕ) → Finishes reads reads told_out output output' s
+  pub memory : HasWanted told_out output output' s
+  pub unread : TakesNoneOrWants told_out output output' operators operators' s
+  pub handed_on : HandsOn told_out output output' s
+  pub wanted : WantsCrew told_out refusals refusals' queues queues' output output' s
+  pub later : refusals ≤ refusals'
+  pub queues_later : queues ≤ queues'

@@ -1,6 +1,7 @@
 pub mod Finished
 pub mod Endings
 pub mod Faults
+pub mod Done
 pub mod Made
 pub mod Output
 pub mod Plays

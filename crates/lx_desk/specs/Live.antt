@@ -7,7 +7,9 @@ use Rattle.lx_io.specs.declared.sink.SinkFault.{SinkFault}
 use Rattle.lx_io.specs.declared.sink.SinkFault.TheVariants.{Failed, Memory}
 use Rattle.lx_io.specs.Causes.{Rose}
 use Rattle.lx_io.specs.Puts.{AppendsFront}
-use Rattle.lx_io.specs.Told.{ToldBySink}
+use Rattle.lx_io.specs.Told.{ToldBySink, ToldBySource}
+use Rattle.lx_lex.specs.declared.lines.Lines.{Lines}
+use Rattle.lx_lex.specs.Unread.{bytes_taken, source_faults, source_left, unread}
 use Rattle.lx_spec.specs.declared.Command.{Command}
 use Rattle.lx_spec.specs.declared.Form.{Form}
 use Rattle.lx_spec.specs.declared.Job.{Job}
@@ -31,7 +33,8 @@ use Rattle.lx_session.specs.declared.tally.Tally.{Tally}
 use Rattle.lx_desk.specs.declared.desk.Status.{Status}
 use Rattle.lx_desk.specs.declared.desk.Status.TheVariants as status
 use Rattle.lx_desk.specs.Faults.{status_for}
-use Rattle.lx_desk.specs.Endings.{HasEnded}
+use Rattle.lx_desk.specs.Endings.{EndsScript, HasEnded}
+use Rattle.lx_desk.specs.Finished.{Finishes}
 use Rattle.lx_desk.specs.Output.{NothingOfCut}
 
 -- The session of a script that is played live over a show, and of its first n lines. Where attempts may fail doesn't matter to it.
@@ -342,3 +345,26 @@ pub record LivesToEnd {K : Type 0} (ample : AmpleMemory) (Told : List (Option Si
   pub read : reads form bytes ≡ Ok reading
   pub plays : PlaysToEnd ample Told told reading.show universes (script_of bytes) held held' outlets outlets'
   pub within : length (input_wanted form bytes) ≤ INPUT_BYTES
+
+-- What playing the script that is left over a show comes to: from lines to lines, from an output to an output and from outlets to outlets, by
+-- two heaps whose counts of refusals went from one number to another.
+pub record PlaysLive {S O K : Type 0} (told_in : ToldBySource S) (told_out : ToldBySink O) (told : ToldBySink K)
+    (refusals refusals' writers writers' : ℕ) (show : Show) (universes : ℕ) (old new : Lines S) (output output' : O)
+    (outlets outlets' : List (Option K)) (s : Status) : Type 0 where
+  pub works : EndsScript s
+  pub played : (outlets' ≡ outlets) ⊎ ArePlayed told universes outlets outlets'
+  pub finish : OutletsFinish told universes outlets outlets' s
+  pub ended : ByLiveMemory refusals refusals' writers writers' (λ ample. IfSome (unread told_in old)
+      (λ bytes. HasPlayedLive ample s told show universes (bytes_taken old) bytes (source_left told_in new) (told_out.holds output)
+      (told_out.holds output') outlets outlets'))
+  pub later : source_faults told_in old ≤ source_faults told_in new
+  pub cause : HasLiveCause told s (source_faults told_in old) (source_faults told_in new) (told_out.faults output) (told_out.faults output')
+      outlets outlets'
+  pub order : ByLiveMemory refusals refusals' writers writers' (λ ample. IfSome (unread told_in old)
+      (λ bytes. DecidesInOrder s (source_faults told_in old) (source_faults told_in new) told_out output output' outlets outlets'
+      (λ Told. PlaysToEnd ample Told told show universes (lines_of bytes) (told_out.holds output) (told_out.holds output') outlets outlets'
+      × (bytes_taken old + length (bytes_wanted bytes) ≤ INPUT_BYTES))))
+  pub finished : Finishes (source_faults told_in old) (source_faults told_in new) told_out output output' s
+  pub wanted : WantsLive told_out told refusals refusals' writers writers' output output' outlets outlets' s
+  pub heap_later : refusals ≤ refusals'
+  pub writers_later : writers ≤ writers'

@@ -1,8 +1,11 @@
 -- What `make` writes about a session, and what holds where it ended.
-use Rattle.std.specs.Prelude.{◌≡◌, ℕ, ◌+◌, ◌<◌, ◌≤◌, Bool, true, Option, List, [], ◌∷◌, ◌++◌, length, sum, codes, decimal}
+use Rattle.std.specs.Prelude.{◌≡◌, ℕ, ◌+◌, ◌<◌, ◌≤◌, Bool, true, false, IfSome, Option, List, [], ◌∷◌, ◌++◌, length, sum, codes, decimal}
 use Rattle.std.specs.Io.KnownBytes.{Appends}
 use Rattle.lx_base.specs.declared.TheConstants.{INPUT_BYTES}
 use Rattle.lx_io.specs.Puts.{AppendsFront}
+use Rattle.lx_io.specs.Told.{ToldBySink, ToldBySource}
+use Rattle.lx_lex.specs.declared.lines.Lines.{Lines}
+use Rattle.lx_lex.specs.Unread.{source_faults, unread}
 use Rattle.lx_spec.specs.Text.{lines_of}
 use Rattle.lx_spec.specs.Desk.{Desk}
 use Rattle.lx_spec.specs.Output.{frame}
@@ -10,10 +13,13 @@ use Rattle.lx_spec.specs.ShowText.{line}
 use Rattle.lx_spec.specs.Session.{whole_session, bytes_wanted}
 use Rattle.lx_spec.specs.DeskSession.{begun, desk_answering}
 use Rattle.lx_spec.specs.MakeOutput.{made_text}
+use Rattle.lx_session.specs.Spared.{ByMemory}
 use Rattle.lx_session.specs.declared.tally.Tally.{Tally}
 use Rattle.lx_desk.specs.declared.desk.Status.{Status}
 use Rattle.lx_desk.specs.declared.desk.Status.TheVariants as status
 use Rattle.lx_desk.specs.declared.make.Report.{Report}
+use Rattle.lx_desk.specs.Endings.{EndsScript, HasCauseOf}
+use Rattle.lx_desk.specs.Finished.{Finishes, HasWanted, WantsMemory}
 use Rattle.lx_desk.specs.Output.{ScriptFailures}
 
 -- the five lines
@@ -46,3 +52,17 @@ HasTold ample status.InputTooLong cues d before bytes held held' = (held' ≡ he
 HasTold ample status.WriteFault cues d before bytes held held' = TellsInFront ample cues d (lines_of bytes) held held'
 HasTold ample status.Memory cues d before bytes held held' = TellsInFront ample cues d (lines_of bytes) held held'
 HasTold ample other cues d before bytes held held' = ⊥
+
+-- The script that is left was answered over a desk, from lines to lines, and its replies were dropped; the lines about its session were
+-- written, as far as its status says, while a heap's count of refusals went from one number to another.
+pub record TellsScript {S K : Type 0} (told_in : ToldBySource S) (told : ToldBySink K) (refusals refusals' cues : ℕ) (d : Desk) (old new : Lines S)
+    (output output' : K) (s : Status) : Type 0 where
+  pub works : EndsScript s
+  pub ended : ByMemory refusals refusals' (λ ample. IfSome (unread told_in old)
+      (λ bytes. HasTold ample s cues d old.taken bytes (told.holds output) (told.holds output')))
+  pub front : IfSome (unread told_in old) (λ bytes. TellsInFront false cues d (lines_of bytes) (told.holds output) (told.holds output'))
+  pub cause : HasCauseOf s (source_faults told_in old) (source_faults told_in new) (told.faults output) (told.faults output')
+  pub finished : Finishes (source_faults told_in old) (source_faults told_in new) told output output' s
+  pub memory : HasWanted told output output' s
+  pub wanted : WantsMemory told refusals refusals' output output' s
+  pub later : refusals ≤ refusals'

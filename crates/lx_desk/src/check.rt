@@ -1,19 +1,15 @@
 //! The job `check`: one line about a show.
 #![tactic(auto, using(lx_io::proofs::Chain::puts))]
 
-ghost use Rattle.std.specs.Prelude.{◌≡◌, ◌≤◌, ◌⊎◌, ◌++◌, ◌∷◌, [], codes, decimal, IfSome, ℕ, OnOk};
-ghost use Rattle.lx_io.specs.Causes.{Rose};
+ghost use Rattle.std.specs.Prelude.{◌++◌, ◌∷◌, [], codes, decimal, ℕ};
+ghost use Rattle.lx_io.specs.Puts.{Puts};
 ghost use Rattle.lx_spec.specs.declared.Job.TheVariants.{Check};
-ghost use Rattle.lx_desk.specs.Output.{WritesPrefix};
-ghost use Rattle.lx_desk.specs.Endings.{EndsJob, HasEndedBy, HasCauseOf};
-ghost use Rattle.std.specs.Io.KnownBytes.{Appends};
-ghost use Rattle.lx_io.specs.Puts.{AppendsFront, Puts};
 ghost use Rattle.lx_spec.specs.CheckOutput.{check_text};
 ghost use Rattle.lx_reader.specs.Answer.{reading_of};
-ghost use Rattle.lx_session.specs.Spared.{ByMemory};
-ghost use Rattle.lx_desk.specs.Finished.{Finishes, HasWanted, WantsMemory};
+ghost use Rattle.lx_desk.specs.Done.{Does, Tells};
 
 use crate::desk::Status;
+use crate::finish::finish;
 use crate::refuse::refuse;
 use lx_io::{Heap, Sink, SinkFault, Source, put_all};
 use lx_lex::{Lines, put_count, put_whole};
@@ -28,16 +24,8 @@ pub(crate) fn check<H: Heap, S: Source, K: Sink>(
     input: &mut S,
     output: &mut K,
 ) -> Status
-    ensures works { EndsJob result }
-    ensures ended { ByMemory (H.refusals heap.old) (H.refusals heap.new)
-        (λ ample. IfSome (S.left input.old) (λ bytes. HasEndedBy ample result (Check form) bytes (S.left input.new) (K.holds output.old)
-        (K.holds output.new))) }
-    ensures prefix { IfSome (S.left input.old) (λ bytes. WritesPrefix (Check form) bytes (K.holds output.old) (K.holds output.new)) }
-    ensures cause { HasCauseOf result (S.faults input.old) (S.faults input.new) (K.faults output.old) (K.faults output.new) }
-    ensures finished { Finishes (S.faults input.old) (S.faults input.new) K.Sink output.old output.new result }
-    ensures memory { HasWanted K.Sink output.old output.new result }
-    ensures wanted { WantsMemory K.Sink (H.refusals heap.old) (H.refusals heap.new) output.old output.new result }
-    ensures later { H.refusals heap.old ≤ H.refusals heap.new }
+    ensures { Does K.Sink (H.refusals heap.old) (H.refusals heap.new) (Check form) (S.left input.old) (S.left input.new)
+        (S.faults input.old) (S.faults input.new) output.old output.new result }
 {
     let mut lines = Lines::new(input);
     match read_show_in(heap, &mut lines, form) {
@@ -48,28 +36,9 @@ pub(crate) fn check<H: Heap, S: Source, K: Sink>(
 
 /// Writes the line about a show that was read.
 fn tell<K: Sink>(loaded: &Loaded, output: &mut K) -> Status
-    ensures ok { result ≡ Status.Ok → Appends (K.holds output.old) (K.holds output.new) (check_text (reading_of loaded.now)) }
-    ensures prefix { AppendsFront (K.holds output.old) (K.holds output.new) (check_text (reading_of loaded.now)) }
-    ensures kinds { (result ≡ Status.Ok) ⊎ ((result ≡ Status.WriteFault) ⊎ (result ≡ Status.Memory)) }
-    ensures write { result ≡ Status.WriteFault → Rose (K.faults output.old) (K.faults output.new) }
-    ensures finished { (reads : ℕ) → Finishes reads reads K.Sink output.old output.new result }
-    ensures memory { HasWanted K.Sink output.old output.new result }
-    ensures wanted { (refusals : ℕ) → WantsMemory K.Sink refusals refusals output.old output.new result }
+    ensures { (refusals : ℕ) → Tells K.Sink refusals refusals Status.Ok (check_text (reading_of loaded.now)) output.old output.new result }
 {
-    match put_and_flush(loaded, output) {
-        Ok(()) => Status::Ok,
-        Err(SinkFault::Failed) => Status::WriteFault,
-        Err(SinkFault::Memory) => Status::Memory,
-    }
-}
-
-/// Appends the line, and flushes.
-fn put_and_flush<K: Sink>(loaded: &Loaded, output: &mut K) -> Result<(), SinkFault>
-    ensures puts { Puts K.Sink output.old output.new result (check_text (reading_of loaded.now)) }
-    ensures handed_on { OnOk result (K.back output.new ≡ []) }
-{
-    put_size(loaded, output)?;
-    output.flush()
+    finish(put_size(loaded, output), Status::Ok, output)
 }
 
 /// Appends the line `show cues A channels B skipped C first D`.

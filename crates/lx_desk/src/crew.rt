@@ -1,21 +1,21 @@
 //! The job `crew`: the scripts of several operators at the same time, over a show.
 
-ghost use Rattle.std.specs.Prelude.{◌≡◌, ◌≢◌, ◌≤◌, ℕ, true, false, IfSome, IsSome, Some, length};
+ghost use Rattle.std.specs.Prelude.{◌≡◌, ◌≤◌, true, false, IfSome, IsSome, Some, length};
 ghost use Rattle.lx_base.specs.declared.TheConstants.{OPERATORS};
-ghost use Rattle.lx_io.specs.Causes.{Rose};
 ghost use Rattle.lx_spec.specs.declared.Job.TheVariants.{Crew};
 ghost use Rattle.lx_spec.specs.Reading.{reads};
 ghost use Rattle.lx_base.specs.Places.{EachAt};
-ghost use Rattle.lx_session.specs.Spared.{ByMemory, HasStood};
-ghost use Rattle.lx_desk.specs.Crew.{HandsOn, HasCrewCause, HasCrewEnded, KeepsOperators, KeepsPlaces, OperatorFailed, ServesOrWants};
-ghost use Rattle.lx_desk.specs.Crew.{TakesNoneOrWants, TellsCrew, TellsOperators, WantsCrew, WritesCrewFront, WritesFirstLines};
+ghost use Rattle.lx_session.specs.Spared.{HasStood};
+ghost use Rattle.lx_desk.specs.Crew.{HandsOn, HasCrewCause, HasCrewEnded, KeepsOperators, ServesOver};
+ghost use Rattle.lx_desk.specs.Crew.{TakesNoneOrWants, TellsCrew, TellsOperators, WantsCrew, WritesCrewFront};
 ghost use Rattle.lx_desk.specs.Finished.{Finishes, HasWanted};
 
 use crate::desk::Status;
+use crate::finish::status_of_sink;
 use crate::refuse::refuse;
 use lx_console::Console;
 use lx_crew::{Crewed, OperatorFault, QueueHeap, crew_in};
-use lx_io::{Heap, Sink, SinkFault, Source};
+use lx_io::{Heap, Sink, Source};
 use lx_lex::Lines;
 use lx_reader::read_show_in;
 use lx_show::Show;
@@ -98,21 +98,8 @@ fn serve<R: Threads + Wait + Sync, H: Heap + Send, S: Source + Send + Drop, K: S
     requires most { count ≤ OPERATORS }
     requires all { length operators.old ≡ OPERATORS }
     requires full { EachAt (λ place source. IsSome source) operators.old }
-    ensures usage { result ≢ Status.Usage }
-    ensures live { result ≢ Status.Live }
-    ensures places { KeepsPlaces count operators.old operators.new }
-    ensures served { ByMemory (H.refusals heap.old) (H.refusals heap.new) (λ ample. ServesOrWants ample S.Source show count operators.old
-        operators.new (K.holds output.old) (K.holds output.new) result) }
-    ensures prefix { WritesFirstLines S.Source show count operators.old (K.holds output.old) (K.holds output.new) }
-    ensures read { result ≡ Status.ReadFault → OperatorFailed S.Source count operators.old operators.new }
-    ensures write { result ≡ Status.WriteFault → Rose (K.faults output.old) (K.faults output.new) }
-    ensures finished { (reads : ℕ) → Finishes reads reads K.Sink output.old output.new result }
-    ensures memory { HasWanted K.Sink output.old output.new result }
-    ensures unread { TakesNoneOrWants K.Sink output.old output.new operators.old operators.new result }
-    ensures handed_on { HandsOn K.Sink output.old output.new result }
-    ensures wanted { WantsCrew K.Sink (H.refusals heap.old) (H.refusals heap.new) queues.old queues.new output.old output.new result }
-    ensures later { H.refusals heap.old ≤ H.refusals heap.new }
-    ensures queues_later { queues.old ≤ queues.new }
+    ensures { ServesOver S.Source K.Sink (H.refusals heap.old) (H.refusals heap.new) queues.old queues.new show count output.old output.new
+        operators.old operators.new result }
 {
     let Ok(mut console) = Console::open_in(heap, show) else {
         return Status::Memory;
@@ -129,8 +116,7 @@ fn status_of_crew(crewed: &Crewed) -> Status
     ensures { TellsCrew crewed.now.output crewed.now.operators result }
 {
     match crewed.output {
-        Some(SinkFault::Failed) => Status::WriteFault,
-        Some(SinkFault::Memory) => Status::Memory,
+        Some(fault) => status_of_sink(fault),
         None => status_of_operators(&crewed.operators),
     }
 }

@@ -7,6 +7,7 @@ mod crew;
 mod desk;
 mod discard;
 mod draws;
+mod finish;
 mod generator;
 mod live;
 mod make;

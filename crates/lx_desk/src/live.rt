@@ -1,16 +1,14 @@
 //! The job `run`: a script over the show that stands before it, played live.
 
-ghost use Rattle.std.specs.Prelude.{◌≡◌, ◌≢◌, ◌≤◌, ◌+◌, ◌⊎◌, true, false, IfSome, Some, length};
+ghost use Rattle.std.specs.Prelude.{◌≡◌, ◌≤◌, IfSome, Some, length};
 ghost use Rattle.lx_base.specs.declared.TheConstants.{INPUT_BYTES, UNIVERSES};
-ghost use Rattle.lx_lex.specs.Unread.{CanAdvance, SameSource, bytes_taken, source_faults, source_left, unread};
+ghost use Rattle.lx_lex.specs.Unread.{CanAdvance, SameSource, bytes_taken};
 ghost use Rattle.lx_spec.specs.declared.Job.TheVariants.{Script};
 ghost use Rattle.lx_spec.specs.declared.ScriptKind.TheVariants.{Live};
 ghost use Rattle.lx_workers.specs.Places.{IsFull};
-ghost use Rattle.lx_desk.specs.Live.{ByLiveMemory, HasLived, HasPlayedLive, KeepsOutlets, HasLiveCause, WantsLive};
-ghost use Rattle.lx_desk.specs.Live.{ArePlayed, OutletsFinish, TellsOutlets, TellsRun, DecidesInOrder, LivesToEnd, PlaysToEnd};
+ghost use Rattle.lx_desk.specs.Live.{ByLiveMemory, HasLived, KeepsOutlets, HasLiveCause, WantsLive};
+ghost use Rattle.lx_desk.specs.Live.{TellsOutlets, TellsRun, DecidesInOrder, LivesToEnd, PlaysLive};
 ghost use Rattle.lx_desk.specs.Finished.{Finishes};
-ghost use Rattle.lx_spec.specs.Text.{lines_of};
-ghost use Rattle.lx_spec.specs.Session.{bytes_wanted};
 
 use crate::desk::Status;
 use crate::play::status_of;
@@ -127,28 +125,8 @@ fn play_live<
     requires going { CanAdvance lines.old }
     requires within { bytes_taken lines.old ≤ INPUT_BYTES }
     ensures same_source { SameSource lines.old lines.new }
-    ensures usage { result ≢ Status.Usage }
-    ensures outlets { (outlets.new ≡ outlets.old) ⊎ ArePlayed K.Sink universes outlets.old outlets.new }
-    ensures live { result ≢ Status.Live }
-    ensures finish { OutletsFinish K.Sink universes outlets.old outlets.new result }
-    ensures ended { ByLiveMemory (H.refusals heap.old) (H.refusals heap.new) writers.old writers.new (λ ample. IfSome (unread S.Source lines.old)
-        (λ bytes. HasPlayedLive ample result K.Sink show universes (bytes_taken lines.old) bytes
-        (source_left S.Source lines.new) (O.holds output.old) (O.holds output.new) outlets.old outlets.new)) }
-    ensures later { source_faults S.Source lines.old ≤ source_faults S.Source lines.new }
-    ensures cause { HasLiveCause K.Sink result (source_faults S.Source lines.old) (source_faults S.Source lines.new)
-        (O.faults output.old) (O.faults output.new) outlets.old outlets.new }
-    ensures order { ByLiveMemory (H.refusals heap.old) (H.refusals heap.new) writers.old writers.new (λ ample. IfSome (unread S.Source lines.old)
-        (λ bytes. DecidesInOrder result (source_faults S.Source lines.old) (source_faults S.Source lines.new) O.Sink output.old
-        output.new outlets.old outlets.new
-        (λ Told. PlaysToEnd ample Told K.Sink show universes (lines_of bytes) (O.holds output.old)
-        (O.holds output.new) outlets.old outlets.new
-        × (bytes_taken lines.old + length (bytes_wanted bytes) ≤ INPUT_BYTES)))) }
-    ensures finished { Finishes (source_faults S.Source lines.old) (source_faults S.Source lines.new) O.Sink output.old
-        output.new result }
-    ensures wanted { WantsLive O.Sink K.Sink (H.refusals heap.old) (H.refusals heap.new) writers.old writers.new output.old output.new
-        outlets.old outlets.new result }
-    ensures heap_later { H.refusals heap.old ≤ H.refusals heap.new }
-    ensures writers_later { writers.old ≤ writers.new }
+    ensures plays { PlaysLive S.Source O.Sink K.Sink (H.refusals heap.old) (H.refusals heap.new) writers.old writers.new show universes lines.old
+        lines.new output.old output.new outlets.old outlets.new result }
 {
     let Ok(mut console) = Console::open_in(heap, show) else {
         return Status::Memory;

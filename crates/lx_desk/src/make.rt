@@ -1,29 +1,23 @@
 //! The job `make`: a session over an input that is made of a number, and five lines about it.
 #![tactic(auto, using(lx_io::proofs::Chain::puts))]
 
-ghost use Rattle.std.specs.Prelude.{◌≡◌, ◌≤◌, ◌⊎◌, ◌∷◌, [], false, ℕ, List, decimal, sum, length, IfSome, IsTrue, OnOk};
+ghost use Rattle.std.specs.Prelude.{◌≡◌, ◌≤◌, ◌∷◌, [], ℕ, List, Some, decimal, sum, length, IsTrue};
 ghost use Rattle.std.specs.declared.option.Option.{Option};
-ghost use Rattle.std.specs.Io.KnownBytes.{Appends};
 ghost use Rattle.lx_base.specs.declared.TheConstants.{INPUT_BYTES, UNIVERSE_SLOTS};
-ghost use Rattle.lx_io.specs.Causes.{Rose};
-ghost use Rattle.lx_io.specs.Puts.{AppendsFront, Puts};
-ghost use Rattle.lx_lex.specs.Unread.{unread};
+ghost use Rattle.lx_io.specs.Puts.{Puts};
 ghost use Rattle.lx_spec.specs.declared.Job.TheVariants as jobs;
-ghost use Rattle.lx_spec.specs.Text.{lines_of};
 ghost use Rattle.lx_spec.specs.MakeOutput.{made_input};
 ghost use Rattle.lx_spec.specs.ShowText.{line};
 ghost use Rattle.lx_spec.specs.Desk.{Desk, opened};
 ghost use Rattle.lx_spec.specs.Output.{frame};
 ghost use Rattle.lx_console.specs.Slots.{universe};
 ghost use Rattle.lx_console.specs.ConsoleMeaning.{StandsFor};
-ghost use Rattle.lx_desk.specs.Output.{WritesPrefix};
-ghost use Rattle.lx_desk.specs.Endings.{EndsJob, EndsScript, HasEndedBy, HasCauseOf};
-ghost use Rattle.lx_desk.specs.Made.{HasTold, TellsInFront, report_of, report_text};
-ghost use Rattle.lx_session.specs.Spared.{ByMemory};
-ghost use Rattle.lx_desk.specs.Finished.{Finishes, HasWanted, WantsMemory};
+ghost use Rattle.lx_desk.specs.Done.{Does, Tells};
+ghost use Rattle.lx_desk.specs.Made.{TellsScript, report_of, report_text};
 
 use crate::desk::Status;
 use crate::discard::Discard;
+use crate::finish::finish;
 use crate::generator::made_input;
 use crate::play::status_of;
 use crate::refuse::refuse;
@@ -56,15 +50,8 @@ pub(crate) struct Report {
 /// Makes an input of a number, reads its show and answers its script as `render` does, and writes five lines about the
 /// session in place of the replies.
 pub(crate) fn make<H: Heap, K: Sink>(heap: &mut H, cues: u32, output: &mut K) -> Status
-    ensures works { EndsJob result }
-    ensures ended { ByMemory (H.refusals heap.old) (H.refusals heap.new) (λ ample. (left : Option (List ℕ))
-        → HasEndedBy ample result (jobs.Make cues) [] left (K.holds output.old) (K.holds output.new)) }
-    ensures prefix { WritesPrefix (jobs.Make cues) [] (K.holds output.old) (K.holds output.new) }
-    ensures cause { (reads : ℕ) → HasCauseOf result reads reads (K.faults output.old) (K.faults output.new) }
-    ensures finished { (reads : ℕ) → Finishes reads reads K.Sink output.old output.new result }
-    ensures memory { HasWanted K.Sink output.old output.new result }
-    ensures wanted { WantsMemory K.Sink (H.refusals heap.old) (H.refusals heap.new) output.old output.new result }
-    ensures later { H.refusals heap.old ≤ H.refusals heap.new }
+    ensures { (left : Option (List ℕ)) (reads : ℕ) → Does K.Sink (H.refusals heap.old) (H.refusals heap.new) (jobs.Make cues) (Some []) left
+        reads reads output.old output.new result }
 {
     match made_input(heap, cues) {
         Ok(input) => make_of(heap, cues, input, output),
@@ -75,15 +62,8 @@ pub(crate) fn make<H: Heap, K: Sink>(heap: &mut H, cues: u32, output: &mut K) ->
 /// Reads the show of a made input and answers its script, and writes the lines about the session.
 fn make_of<H: Heap, K: Sink>(heap: &mut H, cues: u32, input: Vec<u8>, output: &mut K) -> Status
     requires { input.items ≡ made_input cues }
-    ensures works { EndsJob result }
-    ensures ended { ByMemory (H.refusals heap.old) (H.refusals heap.new) (λ ample. (left : Option (List ℕ))
-        → HasEndedBy ample result (jobs.Make cues) [] left (K.holds output.old) (K.holds output.new)) }
-    ensures prefix { WritesPrefix (jobs.Make cues) [] (K.holds output.old) (K.holds output.new) }
-    ensures cause { (reads : ℕ) → HasCauseOf result reads reads (K.faults output.old) (K.faults output.new) }
-    ensures finished { (reads : ℕ) → Finishes reads reads K.Sink output.old output.new result }
-    ensures memory { HasWanted K.Sink output.old output.new result }
-    ensures wanted { WantsMemory K.Sink (H.refusals heap.old) (H.refusals heap.new) output.old output.new result }
-    ensures later { H.refusals heap.old ≤ H.refusals heap.new }
+    ensures { (left : Option (List ℕ)) (reads : ℕ) → Does K.Sink (H.refusals heap.old) (H.refusals heap.new) (jobs.Make cues) (Some []) left
+        reads reads output.old output.new result }
 {
     let mut input = PlainSource::new(input, PIECE);
     let mut lines = Lines::new(&mut input);
@@ -103,18 +83,8 @@ fn tell_session<H: Heap, S: Source, K: Sink>(
 ) -> Status
     requires going { IsTrue lines.old.going }
     requires within { lines.old.taken ≤ INPUT_BYTES }
-    ensures works { EndsScript result }
-    ensures ended { ByMemory (H.refusals heap.old) (H.refusals heap.new) (λ ample. IfSome (unread S.Source lines.old)
-        (λ bytes. HasTold ample result cues (opened show) lines.old.taken bytes (K.holds output.old) (K.holds output.new))) }
-    ensures front { IfSome (unread S.Source lines.old)
-        (λ bytes. TellsInFront false cues (opened show) (lines_of bytes) (K.holds output.old) (K.holds output.new)) }
-    ensures cause { HasCauseOf result (S.faults lines.old.source.now) (S.faults lines.new.source.now) (K.faults output.old)
-        (K.faults output.new) }
-    ensures finished { Finishes (S.faults lines.old.source.now) (S.faults lines.new.source.now) K.Sink output.old
-        output.new result }
-    ensures memory { HasWanted K.Sink output.old output.new result }
-    ensures wanted { WantsMemory K.Sink (H.refusals heap.old) (H.refusals heap.new) output.old output.new result }
-    ensures later { H.refusals heap.old ≤ H.refusals heap.new }
+    ensures { TellsScript S.Source K.Sink (H.refusals heap.old) (H.refusals heap.new) cues (opened show) lines.old lines.new output.old output.new
+        result }
 {
     let Ok(mut console) = Console::open_in(heap, show) else {
         return Status::Memory;
@@ -161,28 +131,9 @@ fn sum_of(slots: &[Level]) -> u64
 
 /// Writes the lines about a session.
 fn tell<K: Sink>(report: Report, output: &mut K) -> Status
-    ensures ok { result ≡ Status.Ok → Appends (K.holds output.old) (K.holds output.new) (report_text report) }
-    ensures prefix { AppendsFront (K.holds output.old) (K.holds output.new) (report_text report) }
-    ensures kinds { (result ≡ Status.Ok) ⊎ ((result ≡ Status.WriteFault) ⊎ (result ≡ Status.Memory)) }
-    ensures write { result ≡ Status.WriteFault → Rose (K.faults output.old) (K.faults output.new) }
-    ensures finished { (reads : ℕ) → Finishes reads reads K.Sink output.old output.new result }
-    ensures memory { HasWanted K.Sink output.old output.new result }
-    ensures wanted { (refusals : ℕ) → WantsMemory K.Sink refusals refusals output.old output.new result }
+    ensures { (refusals : ℕ) → Tells K.Sink refusals refusals Status.Ok (report_text report) output.old output.new result }
 {
-    match put_and_flush(report, output) {
-        Ok(()) => Status::Ok,
-        Err(SinkFault::Failed) => Status::WriteFault,
-        Err(SinkFault::Memory) => Status::Memory,
-    }
-}
-
-/// Appends the lines, and flushes.
-fn put_and_flush<K: Sink>(report: Report, output: &mut K) -> Result<(), SinkFault>
-    ensures puts { Puts K.Sink output.old output.new result (report_text report) }
-    ensures handed_on { OnOk result (K.back output.new ≡ []) }
-{
-    put_report(report, output)?;
-    output.flush()
+    finish(put_report(report, output), Status::Ok, output)
 }
 
 /// Appends the lines.

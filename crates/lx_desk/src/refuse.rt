@@ -1,16 +1,14 @@
 //! A show that is refused, or couldn't be read.
 #![tactic(auto, using(lx_io::proofs::Chain::puts))]
 
-ghost use Rattle.std.specs.Prelude.{◌≡◌, ◌≢◌, ◌⊎◌, ◌∷◌, [], ℕ, codes, decimal, OnOk};
-ghost use Rattle.std.specs.Io.KnownBytes.{Appends, Keeps};
-ghost use Rattle.lx_io.specs.Causes.{Rose};
-ghost use Rattle.lx_io.specs.Puts.{AppendsFront, Puts};
+ghost use Rattle.std.specs.Prelude.{◌∷◌, [], codes, decimal};
+ghost use Rattle.lx_io.specs.Puts.{Puts};
 ghost use Rattle.lx_spec.specs.ShowText.{line as text_line};
 ghost use Rattle.lx_spec.specs.FaultLine.{fault_text};
-ghost use Rattle.lx_desk.specs.ShowRefusal.{RefusedBy};
-ghost use Rattle.lx_desk.specs.Finished.{Finishes, HasWanted};
+ghost use Rattle.lx_desk.specs.Done.{Refuses};
 
 use crate::desk::Status;
+use crate::finish::finish;
 use lx_io::{Sink, SinkFault, put_all};
 use lx_lex::put_whole;
 use lx_reader::ShowFault;
@@ -18,44 +16,14 @@ use lx_spec::TextFault;
 
 /// Writes the line of a show whose text has a fault; any other fault gives its status, and nothing is written.
 pub(crate) fn refuse<K: Sink>(fault: ShowFault, output: &mut K) -> Status
-    ensures refused { RefusedBy (K.holds output.old) (K.holds output.new) fault result }
-    ensures write { result ≡ Status.WriteFault → Rose (K.faults output.old) (K.faults output.new) }
-    ensures finished { (reads : ℕ) → Finishes reads reads K.Sink output.old output.new result }
-    ensures memory { HasWanted K.Sink output.old output.new result }
-    ensures wanted { result ≡ Status.Memory → (fault ≡ ShowFault.Memory) ⊎ Rose (K.wants output.old) (K.wants output.new) }
-    ensures untouched { (result ≡ Status.ReadFault) ⊎ (result ≡ Status.InputTooLong) → output.new ≡ output.old }
+    ensures { Refuses K.Sink fault output.old output.new result }
 {
     match fault {
-        ShowFault::Text(fault) => write_fault(fault, output),
+        ShowFault::Text(fault) => finish(put_fault(fault, output), Status::ShowRefused, output),
         ShowFault::ReadFault => Status::ReadFault,
         ShowFault::InputTooLong => Status::InputTooLong,
         ShowFault::Memory => Status::Memory,
     }
-}
-
-/// Writes the line of a refused show.
-fn write_fault<K: Sink>(fault: TextFault, output: &mut K) -> Status
-    ensures refused { result ≡ Status.ShowRefused → Appends (K.holds output.old) (K.holds output.new) (fault_text fault) }
-    ensures front { AppendsFront (K.holds output.old) (K.holds output.new) (fault_text fault) }
-    ensures kinds { (result ≡ Status.ShowRefused) ⊎ ((result ≡ Status.WriteFault) ⊎ (result ≡ Status.Memory)) }
-    ensures write { result ≡ Status.WriteFault → Rose (K.faults output.old) (K.faults output.new) }
-    ensures finished { (reads : ℕ) → Finishes reads reads K.Sink output.old output.new result }
-    ensures memory { result ≡ Status.Memory → Rose (K.wants output.old) (K.wants output.new) }
-{
-    match put_and_flush(fault, output) {
-        Ok(()) => Status::ShowRefused,
-        Err(SinkFault::Failed) => Status::WriteFault,
-        Err(SinkFault::Memory) => Status::Memory,
-    }
-}
-
-/// Appends the line of a refused show, and flushes.
-fn put_and_flush<K: Sink>(fault: TextFault, output: &mut K) -> Result<(), SinkFault>
-    ensures puts { Puts K.Sink output.old output.new result (fault_text fault) }
-    ensures handed_on { OnOk result (K.back output.new ≡ []) }
-{
-    put_fault(fault, output)?;
-    output.flush()
 }
 
 /// Appends the line of a refused show.

@@ -6,7 +6,8 @@ ghost use Rattle.lx_lex.specs.Unread.{CanAdvance, SameSource, bytes_taken};
 ghost use Rattle.lx_spec.specs.declared.Job.TheVariants as jobs;
 ghost use Rattle.lx_spec.specs.ScriptKinds.{answering_of, opening_of};
 ghost use Rattle.lx_desk.specs.Output.{WritesPrefix};
-ghost use Rattle.lx_desk.specs.Endings.{AnswersWords, EndsJob, HasEndedBy, HasCauseOf, is_live};
+ghost use Rattle.lx_desk.specs.Done.{Does};
+ghost use Rattle.lx_desk.specs.Endings.{AnswersWords, HasEndedBy, HasCauseOf, is_live};
 ghost use Rattle.lx_session.specs.Spared.{ByMemory};
 ghost use Rattle.lx_desk.specs.Finished.{Finishes, HasWanted, WantsMemory};
 ghost use Rattle.lx_desk.specs.Plays.{Plays};
@@ -63,16 +64,8 @@ fn read_and_play<H: Heap, S: Source, K: Sink>(
     output: &mut K,
 ) -> Status
     requires here { is_live kind ≡ false }
-    ensures works { EndsJob result }
-    ensures ended { ByMemory (H.refusals heap.old) (H.refusals heap.new) (λ ample. IfSome (S.left input.old)
-        (λ bytes. HasEndedBy ample result (jobs.Script kind form) bytes (S.left input.new) (K.holds output.old) (K.holds output.new))) }
-    ensures prefix { IfSome (S.left input.old)
-        (λ bytes. WritesPrefix (jobs.Script kind form) bytes (K.holds output.old) (K.holds output.new)) }
-    ensures cause { HasCauseOf result (S.faults input.old) (S.faults input.new) (K.faults output.old) (K.faults output.new) }
-    ensures finished { Finishes (S.faults input.old) (S.faults input.new) K.Sink output.old output.new result }
-    ensures memory { HasWanted K.Sink output.old output.new result }
-    ensures wanted { WantsMemory K.Sink (H.refusals heap.old) (H.refusals heap.new) output.old output.new result }
-    ensures later { H.refusals heap.old ≤ H.refusals heap.new }
+    ensures { Does K.Sink (H.refusals heap.old) (H.refusals heap.new) (jobs.Script kind form) (S.left input.old) (S.left input.new)
+        (S.faults input.old) (S.faults input.new) output.old output.new result }
 {
     let mut lines = Lines::new(input);
     match read_show_in(heap, &mut lines, form) {

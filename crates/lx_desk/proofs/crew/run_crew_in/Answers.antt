@@ -1,4 +1,4 @@
-use Rattle.lx_desk.proofs.Imports.{inl, false, true, arith, stood_since, refl, IfSome, sym, ap, ◌∙◌, subst, HasCrewEnded, HasCrewCause, IsDone, Finishes, Err}
+use Rattle.lx_desk.proofs.Imports.{EndsScript, inl, false, true, arith, stood_since, refl, IfSome, sym, ap, ◌∙◌, subst, HasCrewEnded, HasCrewCause, IsDone, Finishes, Err}
 use Rattle.lx_desk.proofs.Finishing.{after_reads, refusal_reads, refusal_wanted}
 use Rattle.lx_desk.proofs.CrewRuns.{as_crew, crew_since, kept_places}
 use Rattle.lx_desk.proofs.LiveEnds.{refused_words, refused_live}
@@ -20,6 +20,11 @@ returns-in-Ok-clause-cause g c =
     let same = c.input-1.given.1 (sym (c.in-Ok.ensures.same_reference ∙ c.new-lines.ensures.same_reference)) in
     let kept = c.in-Ok.ensures.kept (λ odd. cc) ∙ ap g.I.Source.faults c.new-lines.ensures.source in
     served_cause _ c.serve.result _ _ _ _ _ _ _ (ap g.I.Source.faults same ∙ kept) c.serve.ensures.read c.serve.ensures.write
+
+pub returns-in-Ok-clause-words : goal.returns-in-Ok-clause-words
+returns-in-Ok-clause-words g c =
+    let works = c.serve.ensures.works in
+    (λ is. subst EndsScript is works, λ is. subst EndsScript is works, c.serve.ensures.places)
 
 pub returns-in-Err-clause-words : goal.returns-in-Err-clause-words
 returns-in-Err-clause-words g c = (

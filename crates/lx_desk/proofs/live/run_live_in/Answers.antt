@@ -1,4 +1,4 @@
-use Rattle.lx_desk.proofs.Imports.{inl, refl, false, true, arith, stood_since, IfSome, sym, ap, ◌∙◌, subst, HasLived, DecidesInOrder, HasLiveCause, LivesToEnd, IsDone, Finishes, Err}
+use Rattle.lx_desk.proofs.Imports.{EndsScript, inl, refl, false, true, arith, stood_since, IfSome, sym, ap, ◌∙◌, subst, HasLived, DecidesInOrder, HasLiveCause, LivesToEnd, IsDone, Finishes, Err}
 use Rattle.lx_desk.proofs.Finishing.{after_reads, refusal_reads, refusal_wanted}
 use Rattle.lx_desk.proofs.LiveRuns.{as_live, live_since}
 use Rattle.lx_desk.proofs.Statuses.{as_live_cause, cause_behind, live_behind, refusal_cause}
@@ -8,7 +8,8 @@ use Rattle.lx_desk.proofs.live.run_live_in.Goals as goal
 
 pub returns-in-Ok-clause-outlets : goal.returns-in-Ok-clause-outlets
 returns-in-Ok-clause-outlets g c =
-    (c.play_live.ensures.usage, c.play_live.ensures.outlets, c.play_live.ensures.live, c.play_live.ensures.finish)
+    let works = c.play_live.ensures.plays.works in
+    (λ is. subst EndsScript is works, c.play_live.ensures.plays.played, λ is. subst EndsScript is works, c.play_live.ensures.plays.finish)
 
 pub returns-in-Ok-clause-ended : goal.returns-in-Ok-clause-ended
 returns-in-Ok-clause-ended g c = λ ample stood sent.
@@ -18,7 +19,7 @@ returns-in-Ok-clause-ended g c = λ ample stood sent.
     (g.S.Source.left v)
     (g.O.Sink.holds c.args.output.now) (g.O.Sink.holds c.play_live.new.output) c.args.outlets.now c.play_live.new.outlets)) (sym same)
     (live_ended ample c.args.form c.args.universes _ _ _ _ c.in-Ok.loaded _ _ _ _ _ _ c.play_live.result c.new-lines.ensures.unread
-    c.new-lines.ensures.taken c.in-Ok.ensures.answer (c.play_live.ensures.ended ample (λ is. stood_since _ _ _ c.in-Ok.ensures.cause.later (stood is)) sent))
+    c.new-lines.ensures.taken c.in-Ok.ensures.answer (c.play_live.ensures.plays.ended ample (λ is. stood_since _ _ _ c.in-Ok.ensures.cause.later (stood is)) sent))
 
 pub returns-in-Err-clause-outlets : goal.returns-in-Err-clause-outlets
 returns-in-Err-clause-outlets g c = (
@@ -49,7 +50,7 @@ returns-in-Ok-clause-order g c = λ ample stood sent.
     (g.O.Sink.holds c.args.output.now) (g.O.Sink.holds c.play_live.new.output) c.args.outlets.now c.play_live.new.outlets))) (sym same)
     (live_order ample c.args.form c.args.universes g.K.Sink g.O.Sink _ _
     _ _ _ _ _ _ _ c.in-Ok.loaded _ c.play_live.result _ _ _ c.new-lines.ensures.unread c.new-lines.ensures.taken
-    c.in-Ok.ensures.answer kept (c.play_live.ensures.order ample (λ is. stood_since _ _ _ c.in-Ok.ensures.cause.later (stood is)) sent))
+    c.in-Ok.ensures.answer kept (c.play_live.ensures.plays.order ample (λ is. stood_since _ _ _ c.in-Ok.ensures.cause.later (stood is)) sent))
 
 pub returns-in-Ok-clause-finished : goal.returns-in-Ok-clause-finished
 returns-in-Ok-clause-finished g c =
@@ -58,7 +59,7 @@ returns-in-Ok-clause-finished g c =
     let kept = c.in-Ok.ensures.kept (λ odd. cc) ∙ ap g.S.Source.faults c.new-lines.ensures.source in
     subst (λ v. Finishes (g.S.Source.faults c.args.input.now) (g.S.Source.faults v) g.O.Sink
     c.args.output.now c.play_live.new.output c.play_live.result) (sym same)
-    (after_reads _ _ _ _ _ _ c.play_live.result (λ done. kept) c.play_live.ensures.finished)
+    (after_reads _ _ _ _ _ _ c.play_live.result (λ done. kept) c.play_live.ensures.plays.finished)
 
 pub returns-in-Err-clause-order : goal.returns-in-Err-clause-order
 returns-in-Err-clause-order g c = λ ample stood sent.
@@ -78,7 +79,7 @@ returns-in-Err-clause-finished g c =
 pub returns-in-Ok-clause-wanted : goal.returns-in-Ok-clause-wanted
 returns-in-Ok-clause-wanted g c =
     live_since g.O.Sink g.K.Sink _ (g.H.Heap.refusals c.read_show_in.new.heap) _ _ _ _ _ _ _ c.play_live.result c.in-Ok.ensures.cause.later
-    c.play_live.ensures.wanted
+    c.play_live.ensures.plays.wanted
 
 pub returns-in-Err-clause-wanted : goal.returns-in-Err-clause-wanted
 returns-in-Err-clause-wanted g c =
@@ -87,7 +88,7 @@ returns-in-Err-clause-wanted g c =
     c.refuse.new.output c.in-Err.fault c.refuse.result c.in-Err.ensures.cause.failed c.refuse.ensures.wanted)
 
 pub returns-in-Ok-clause-later : goal.returns-in-Ok-clause-later
-returns-in-Ok-clause-later g c = omega (arith, c.in-Ok.ensures.cause.later, c.play_live.ensures.heap_later)
+returns-in-Ok-clause-later g c = omega (arith, c.in-Ok.ensures.cause.later, c.play_live.ensures.plays.heap_later)
 
 pub returns-in-Ok-clause-cause : goal.returns-in-Ok-clause-cause
 returns-in-Ok-clause-cause g c =
@@ -96,7 +97,7 @@ returns-in-Ok-clause-cause g c =
     let kept = c.in-Ok.ensures.kept (λ odd. cc) ∙ ap g.S.Source.faults c.new-lines.ensures.source in
     subst (λ v. HasLiveCause g.K.Sink c.play_live.result (g.S.Source.faults c.args.input.now) (g.S.Source.faults v)
     (g.O.Sink.faults c.args.output.now) (g.O.Sink.faults c.play_live.new.output) c.args.outlets.now c.play_live.new.outlets) (sym same)
-    (live_behind g.K.Sink c.play_live.result _ _ _ _ _ c.args.outlets.now c.play_live.new.outlets kept c.play_live.ensures.cause)
+    (live_behind g.K.Sink c.play_live.result _ _ _ _ _ c.args.outlets.now c.play_live.new.outlets kept c.play_live.ensures.plays.cause)
 
 pub returns-in-Err-clause-cause : goal.returns-in-Err-clause-cause
 returns-in-Err-clause-cause g c =
