@@ -26,9 +26,33 @@ release-faults-requires-clause-works g c =
     rw (works_back _ c.hire.new.works.items c.perform-output.new.works c.hire.new.works.len (omega (arith, c.hire.new.works.ok.0)) zip)
     (retired_works _ _ _ _ ran)
 
+pub release-faults-requires-clause-count : goal.release-faults-requires-clause-count
+release-faults-requires-clause-count g c =
+    let zip = rw c.as_mut_slice.ensures.value at c.perform-output.ensures.ran in
+    ap length (works_back _ c.hire.new.works.items c.perform-output.new.works c.hire.new.works.len (omega (arith, c.hire.new.works.ok.0)) zip)
+    ∙ AllZip-long _ _ _ zip ∙ c.hire.ensures.count ∙ sym c.hire.ensures.same
+
+pub release-faults-requires-clause-pops : goal.release-faults-requires-clause-pops
+release-faults-requires-clause-pops g c = ap (λ (v : View). v.pops) c.perform-output.ensures.served.view
+
+pub release-faults-requires-clause-pushes : goal.release-faults-requires-clause-pushes
+release-faults-requires-clause-pushes g c = ap (λ (v : View). v.pushes) c.perform-output.ensures.served.view
+
 pub learn_as-requires-clause-rule : goal.learn_as-requires-clause-rule
 learn_as-requires-clause-rule g c =
     totals _ _ (ap (λ (v : View). v.pops) c.release-faults.ensures.kept ∙ ap (λ (v : View). v.pops) c.perform-output.ensures.served.view)
+
+pub returns-clause-cause : goal.returns-clause-cause
+returns-clause-cause g c = c.perform-output.ensures.served.cause
+
+pub returns-clause-handed_on : goal.returns-clause-handed_on
+returns-clause-handed_on g c = c.perform-output.ensures.served.handed_on
+
+pub returns-clause-later : goal.returns-clause-later
+returns-clause-later g c =
+    let room = c.room.ensures.cause.later in
+    let later = c.perform-output.ensures.served.later in
+    omega (arith, room, later)
 
 pub returns-clause-crewed : goal.returns-clause-crewed
 returns-clause-crewed g c = λ ample stood d stands.

@@ -46,6 +46,18 @@ absorb-requires-clause-rule g c =
     let t = each_init _ c.pop.new.self.items c.in-Some.work (rw c.in-Some.ensures.items at i.works) in
     merges _ _ _ _ (ap (λ (v : View). v.pops) i.knows ∙ c.requires.pops) (ap (λ (v : View). v.pushes) i.knows ∙ c.requires.pushes) t.1.1
 
+pub bounds-operators-place : goal.bounds-operators-place
+bounds-operators-place g c =
+    let i = c.loop-work.invariant in
+    let l = ap length c.in-Some.ensures.items ∙ length_push c.pop.new.self.items c.in-Some.work in
+    omega (arith, l, i.count, c.len-place.ensures, c.pop.new.self.ok.0)
+
+pub bounds-faults-place : goal.bounds-faults-place
+bounds-faults-place g c =
+    let i = c.loop-work.invariant in
+    let l = ap length c.in-Some.ensures.items ∙ length_push c.pop.new.self.items c.in-Some.work in
+    omega (arith, l, i.count, i.four, i.all, c.requires.few, c.len-place.ensures, c.pop.new.self.ok.0)
+
 pub loop-work-preserved : goal.loop-work-preserved
 loop-work-preserved g c =
     let i = c.loop-work.invariant in
@@ -72,3 +84,24 @@ loop-work-preserved g c =
           here.1 (omega (arith, l, i.count, i.four, i.all, c.requires.few)) l at i.faults;
       others = none_more c.loop-work.faults (length c.args.operators.now) _ work.fault (omega (arith, at, l, i.count, i.all)) i.others;
     }
+
+pub returns-clause-kept : goal.returns-clause-kept
+returns-clause-kept g c =
+    let i = c.loop-work.invariant in
+    let none : c.loop-work.works.items ≡ [] = search rules in
+    i.knows ∙ ap (λ kept. record (view c.args.pass.now) { kept = kept }) (ap (λ (ws : List _). map owned ws ++ i.kept) (sym none) ∙ i.lists)
+
+pub returns-clause-back : goal.returns-clause-back
+returns-clause-back g c = λ k work at.
+    let none : c.loop-work.works.items ≡ [] = search rules in
+    let zero : length c.loop-work.works.items ≡ 0 = ap length none in
+    c.loop-work.invariant.back k work at (omega (arith, zero))
+
+pub returns-clause-faults : goal.returns-clause-faults
+returns-clause-faults g c = λ k work at.
+    let none : c.loop-work.works.items ≡ [] = search rules in
+    let zero : length c.loop-work.works.items ≡ 0 = ap length none in
+    c.loop-work.invariant.faults k work at (omega (arith, zero))
+
+pub returns-clause-others : goal.returns-clause-others
+returns-clause-others g c = c.loop-work.invariant.others

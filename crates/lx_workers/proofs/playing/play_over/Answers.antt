@@ -1,6 +1,7 @@
-use Rattle.lx_workers.proofs.Imports.{rules, ◌≡◌, ◌-◌, ◌<◌, [], Some, length, vec_len, refl, sym, ◌∙◌, arith, slice_get_within}
+use Rattle.lx_workers.proofs.Imports.{rules, ◌≡◌, ◌-◌, ◌<◌, [], Some, length, vec_len, refl, sym, ap, ◌∙◌, arith, slice_get_within}
 use Rattle.lx_workers.proofs.PlacesKept.{full_at, is_back}
 use Rattle.lx_work.proofs.Places.{get_within, zip_at}
+use Rattle.lx_session.proofs.Stood.{stood_since}
 use Rattle.lx_workers.proofs.Runs.{in_step_at, played_of, held_in}
 use Rattle.lx_workers.proofs.playing.play_over.Goals as goal
 
@@ -9,6 +10,36 @@ fill_lanes-lanes-requires-clause-full g c = full_at _ c.requires.full
 
 pub perform-lanes-requires-clause-in_step : goal.perform-lanes-requires-clause-in_step
 perform-lanes-requires-clause-in_step g c = λ κs bounds. in_step_at _ _ _ _ c.in_ok-gate.ensures.gate refl c.requires.opened
+
+pub returns-clause-same_source : goal.returns-clause-same_source
+returns-clause-same_source g c = (held_in c.perform-lanes.new.gate c.in-Some.gate _ c.in-Some.is c.perform-lanes.ensures.engine).same_source
+
+pub returns-clause-limit : goal.returns-clause-limit
+returns-clause-limit g c = (held_in c.perform-lanes.new.gate c.in-Some.gate _ c.in-Some.is c.perform-lanes.ensures.engine).limit
+
+pub returns-clause-cause : goal.returns-clause-cause
+returns-clause-cause g c = (held_in c.perform-lanes.new.gate c.in-Some.gate _ c.in-Some.is c.perform-lanes.ensures.engine).cause
+
+pub returns-clause-handed_on : goal.returns-clause-handed_on
+returns-clause-handed_on g c = (held_in c.perform-lanes.new.gate c.in-Some.gate _ c.in-Some.is c.perform-lanes.ensures.engine).handed_on
+
+pub returns-clause-sent : goal.returns-clause-sent
+returns-clause-sent g c = λ stood.
+    let run = held_in c.perform-lanes.new.gate c.in-Some.gate _ c.in-Some.is c.perform-lanes.ensures.engine in
+    c.len.ensures ∙ ap length (run.sends.sent (stood_since _ _ _ c.in_ok-gate.ensures.writers_later stood))
+
+pub returns-clause-later : goal.returns-clause-later
+returns-clause-later g c =
+    let room = c.in_ok-lanes.ensures.cause.later in
+    let opened = c.in_ok-gate.ensures.later in
+    let later = (held_in c.perform-lanes.new.gate c.in-Some.gate _ c.in-Some.is c.perform-lanes.ensures.engine).later in
+    omega (arith, room, opened, later)
+
+pub returns-clause-writers_later : goal.returns-clause-writers_later
+returns-clause-writers_later g c =
+    let opened = c.in_ok-gate.ensures.writers_later in
+    let later = (held_in c.perform-lanes.new.gate c.in-Some.gate _ c.in-Some.is c.perform-lanes.ensures.engine).sends.later in
+    omega (arith, opened, later)
 
 pub returns-clause-played : goal.returns-clause-played
 returns-clause-played g c = λ ample stood.
