@@ -135,7 +135,8 @@ part_reads n q p range =
 -- GROUP g and SUB s, in any section
 pub group_reads : (s : Section) (p g : ℕ) → InRange GROUPS g → Line s p (codes "GROUP" ∷ decimal g ∷ []) (Begins (InGroup g)) (InGroup g) 1
 group_reads s p g range =
-    whole_said _ _ _ _ g GROUPS (codes "GROUP") (λ n. Begins (InGroup n)) range (omega arith) refl (λ i cs body text. refl) refl (λ i cs. refl)
+    whole_said _ _ _ _ g GROUPS (codes "GROUP") (λ n. Begins (InGroup n)) range (omega arith) refl (λ i cs body text. refl) refl
+    (λ i cs. refl)
 
 pub sub_reads : (s : Section) (p n : ℕ) → InRange SUBS n → Line s p (codes "SUB" ∷ decimal n ∷ []) (Begins (InSub n)) (InSub n) 1
 sub_reads s p n range =
@@ -180,7 +181,8 @@ one_row i c e l = (number i c >>= (λ chan. number i e
     >>= (λ rows. Ok (Patches rows))
 
 pub patch_reads : (c e l : ℕ) → InRange CHANNELS c → InRange DIMMERS e → IsLevel l
-    → Line NoRecord 1 (codes "PATCH" ∷ codes "1" ∷ (decimal c ++ 60 ∷ at_text e l) ∷ []) (Patches (record { dimmer = e; chan = c; level = l } ∷ [])) NoRecord 1
+    → Line NoRecord 1 (codes "PATCH" ∷ codes "1" ∷ (decimal c ++ 60 ∷ at_text e l) ∷ []) (Patches (record { dimmer = e; chan = c; level = l } ∷ []))
+    NoRecord 1
 patch_reads c e l chan dimmer low =
     said _ _ _ _ (Patches (record { dimmer = e; chan = c; level = l } ∷ []))
     (first (codes "PATCH") refl (first (codes "1") refl (before (number_token (whole_text c (omega (arith, chan.most)))) 60 refl

@@ -102,7 +102,8 @@ module _ {A : Type 0} (show : Show) (valid : Valid show) (number : Section → O
   bodies : (n : ℕ) → flat_map (own number n) (chunks_of show) ≡ picked key (λ x. (chunk x).body) n xs
   bodies n =
       rw (stand, flat_map-append (own number n) front (map chunk xs ++ back), silent n front before)
-      (rw (flat_map-append (own number n) (map chunk xs) back, silent n back after, append-nil) (flat_map-map (own number n) chunk xs ∙ (λ j. flat_map (λ x. cond (is_at n (some x j)) (chunk x).body []) xs)))
+      (rw (flat_map-append (own number n) (map chunk xs) back, silent n back after, append-nil)
+      (flat_map-map (own number n) chunk xs ∙ (λ j. flat_map (λ x. cond (is_at n (some x j)) (chunk x).body []) xs)))
 
   about : (n : ℕ) → filter speaks (filter (stands_in number n) (records_of show)) ≡ picked key (λ x. (chunk x).body) n xs
   about n =
