@@ -1,8 +1,8 @@
 -- How a run of several operators ended, from its show and its crew.
-use Rattle.lx_desk.proofs.Imports.{◌≡◌, inl, inr, ℕ, ◌+◌, ◌≤◌, Option, Some, None, Result, Ok, Err, IfSome, List, [], length, refl, sym, ap}
-use Rattle.lx_desk.proofs.Imports.{◌∙◌, subst, INPUT_BYTES, Rose, AppendsFront, Lines, unread, first_lines-longer, Form, Crew, TextFault, lines_of}
-use Rattle.lx_desk.proofs.Imports.{over_show, fault_text, Reading, reads, lines_read, show_wanted, output_of, Loaded, ShowFault, reading_of, HasRead, Status}
-use Rattle.lx_desk.proofs.Imports.{WritesPrefix, RefusedBy, EndsJob, HasEnded, ServesOrWants, ServesNone, HasCrewEnded, WritesFirstLines, WritesCrewFront}
+use Rattle.lx_desk.proofs.Imports.{◌≡◌, inl, inr, ℕ, ◌≤◌, Option, Some, None, Result, Ok, Err, IfSome, List, [], length, refl, sym}
+use Rattle.lx_desk.proofs.Imports.{◌∙◌, subst, INPUT_BYTES, Rose, AppendsFront, Lines, unread, Form, Crew, TextFault}
+use Rattle.lx_desk.proofs.Imports.{fault_text, Reading, reads, show_wanted, Loaded, ShowFault, reading_of, HasRead, Status}
+use Rattle.lx_desk.proofs.Imports.{RefusedBy, EndsJob, HasEnded, ServesOrWants, ServesNone, HasCrewEnded, WritesFirstLines, WritesCrewFront}
 use Rattle.lx_desk.proofs.Imports.{Bool, false, HasCauseOf, OperatorFailed, HasCrewCause, ToldBySource}
 use Rattle.lx_desk.specs.declared.desk.Status.TheVariants as status
 use Rattle.lx_desk.proofs.EmptyPrefixes.{unwritten_as}

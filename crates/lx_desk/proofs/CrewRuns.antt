@@ -1,10 +1,10 @@
 -- What the status of a crew says of its output and of its operators.
-use Rattle.lx_desk.proofs.Imports.{◌≡◌, ◌≢◌, inl, inr, ℕ, zero, suc, ◌+◌, ◌<◌, ◌≤◌, true, false, Option, Some, None, IfSome, IsSome}
+use Rattle.lx_desk.proofs.Imports.{◌≡◌, inl, inr, ℕ, zero, suc, ◌+◌, ◌<◌, ◌≤◌, true, false, Option, Some, None, IfSome, IsSome}
 use Rattle.lx_desk.proofs.Imports.{List, [], ◌∷◌, ◌++◌, length, take, drop, slice_get, refl, sym, ap, ◌∙◌, subst, arith, take_all, drop_at}
-use Rattle.lx_desk.proofs.Imports.{length-append, length-drop, take-append-drop, AllByRecursion, position_or_len, same_Some, slice_get_within, SinkFault, Rose}
+use Rattle.lx_desk.proofs.Imports.{length-append, length-drop, AllByRecursion, position_or_len, same_Some, slice_get_within, SinkFault, Rose}
 use Rattle.lx_desk.proofs.Imports.{AppendsFront, lines_of, Show, opened, Kept, ends_script, lines_wanted, Tally, OperatorFault, EachAt, Status, IsLowest}
 use Rattle.lx_desk.proofs.Imports.{WritesTranscript, WritesLines, Serves, WritesFirstLines, KeepsPlaces, OperatorFailed, TellsOperators, TellsCrew, Finishes}
-use Rattle.lx_desk.proofs.Imports.{◌⊎◌, ByMemory, ServesOver, stood_since, Bool, EndsScript, HandsOn, HasWanted, TakesNoneOrWants, WantsCrew, WantsMemory, ToldBySink, ToldBySource}
+use Rattle.lx_desk.proofs.Imports.{◌⊎◌, ByMemory, ServesOver, stood_since, Bool, EndsScript, HandsOn, WantsCrew, WantsMemory, ToldBySink, ToldBySource}
 use Rattle.std.specs.Io.KnownBytes.{Appends}
 use Rattle.std.proofs.KnownBytes.{Appends-nil}
 use Rattle.lx_io.specs.declared.sink.SinkFault.TheVariants as sinks

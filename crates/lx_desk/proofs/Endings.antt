@@ -1,9 +1,8 @@
 -- What holds where a job ended, from what holds at each status.
 use Rattle.lx_desk.proofs.Imports.{◌≡◌, ◌⊎◌, inl, inr, true, false, Option, Some, None, IfSome, List, ℕ, refl, sym, ap, subst}
 use Rattle.lx_desk.proofs.Imports.{if◌then◌else◌, AppendsFront, Appends, Lines, unread, Form, Job, Script, ScriptKind, answering_of, opening_of, Reading}
-use Rattle.lx_desk.proofs.Imports.{Loaded, ShowFault, reading_of, HasRead, Status, RefusedBy, status_kept, AnswersWords, EndsJob, EndsScript, HasEndedBy}
+use Rattle.lx_desk.proofs.Imports.{Loaded, ShowFault, reading_of, HasRead, Status, RefusedBy, AnswersWords, EndsJob, EndsScript, HasEndedBy}
 use Rattle.lx_desk.proofs.Imports.{Bool, HasPlayed, at_once, is_live, ToldBySource}
-use Rattle.lx_reader.specs.declared.fault.ShowFault.TheVariants as faults
 use Rattle.lx_desk.specs.declared.desk.Status.TheVariants as status
 use Rattle.lx_desk.proofs.Inputs.{Says, IsOverShow, IsOfShow, told_text, told_prefix, told_fits, session_text, session_front}
 use Rattle.lx_desk.proofs.Inputs.{session_long}

@@ -4,9 +4,9 @@ use Rattle.lx_desk.proofs.Imports.{None, Result, Ok, Err, IfSome, IsErr, IsOk, L
 use Rattle.lx_desk.proofs.Imports.{arith, length-append, append-nil, append_assoc, take_all, Appends, IsAtEnd, INPUT_BYTES, AppendsFront, AppendsFront-from}
 use Rattle.lx_desk.proofs.Imports.{Lines, LinesBetween, unread, first_lines-more, first_lines-longer, Form, TextFault, lines_of, Reading, reads, script_of}
 use Rattle.lx_desk.proofs.Imports.{lines_read, HasNoFeed, feeds, first_lines, answering_of, opening_of, script_session, first_replies, input_lines_wanted}
-use Rattle.lx_desk.proofs.Imports.{input_wanted, ScriptAllows, over_show, fault_text, Answering, whole_session, session_after, Allows, lines_wanted}
+use Rattle.lx_desk.proofs.Imports.{input_wanted, ScriptAllows, over_show, fault_text, Answering, whole_session, session_after, lines_wanted}
 use Rattle.lx_desk.proofs.Imports.{bytes_wanted, Loaded, ShowFault, reading_of, HasRead, OfText, CutShort, Status, Job, Check, Sheet, Script, ScriptKind}
-use Rattle.lx_desk.proofs.Imports.{check_text, sheet_text, show_of, output_of, JobAllows, wanted_of, show_wanted, WritesAll, WritesTaken}
+use Rattle.lx_desk.proofs.Imports.{check_text, sheet_text, show_of, output_of, wanted_of, show_wanted, WritesAll, WritesTaken}
 use Rattle.lx_desk.proofs.Imports.{RepliesToTaken, NothingOfCut, AnswersScript, AnswersInFront, AnswersTaken, RefusedBy, status_kept, ToldBySource}
 use Rattle.lx_desk.proofs.Imports.{Bool, WritesFront, JobFailures, ScriptFailures}
 use Rattle.lx_spec.specs.CutInput.{CutOff}

@@ -1,11 +1,11 @@
 -- What a job over the show of an input does, from what its calls came to.
-use Rattle.lx_desk.proofs.Imports.{◌≡◌, ◌≢◌, ◌≤◌, ℕ, Bool, false, true, Option, List, IfSome, sym, ap, ◌∙◌, subst, arith, refl, Lines, unread, Form, Job}
-use Rattle.lx_desk.proofs.Imports.{Script, ScriptKind, answering_of, opening_of, Reading, Loaded, ShowFault, reading_of, HasRead, Status, HasEndedBy}
-use Rattle.lx_desk.proofs.Imports.{◌⊎◌, AnswersWords, at_once, EndsJob, inl, inr, None, Some, Does, Plays, Refuses, Tells, ToldBySink, ToldBySource, Rose, HasStood, stood_since}
+use Rattle.lx_desk.proofs.Imports.{◌≡◌, ◌≢◌, ◌≤◌, ℕ, false, Option, List, IfSome, sym, ap, ◌∙◌, subst, arith, Lines, unread, Form, Job}
+use Rattle.lx_desk.proofs.Imports.{Script, ScriptKind, answering_of, opening_of, Reading, Loaded, ShowFault, reading_of, HasRead, Status}
+use Rattle.lx_desk.proofs.Imports.{◌⊎◌, AnswersWords, at_once, EndsJob, inl, inr, None, Some, Does, Plays, Refuses, Tells, ToldBySink, ToldBySource, Rose, stood_since}
 use Rattle.lx_spec.specs.Job.{given_to}
 use Rattle.lx_reader.specs.declared.fault.ShowFault.TheVariants as shows
 use Rattle.lx_desk.specs.declared.desk.Status.TheVariants as status
-use Rattle.lx_desk.proofs.Inputs.{Says, IsOverShow, IsOfShow, told_prefix, refusal_front, session_front, script_over}
+use Rattle.lx_desk.proofs.Inputs.{Says, IsOverShow, IsOfShow, told_prefix, refusal_front, session_front}
 use Rattle.lx_desk.proofs.Endings.{script_job, told_ends, told_ended, refusal_ends, refusal_ended, script_ended}
 use Rattle.lx_desk.proofs.Finishing.{after_reads, refusal_reads, refusal_wanted, wanted_since}
 use Rattle.lx_desk.proofs.Statuses.{cause_behind, refusal_cause, told_cause}

@@ -1,9 +1,9 @@
 -- How a live run ended, from its show and its script.
-use Rattle.lx_desk.proofs.Imports.{◌≡◌, ◌≢◌, ◌⊎◌, inl, inr, Bool, true, false, ℕ, ◌+◌, ◌-◌, ◌≤◌, Option, Some, None, Result, Ok}
-use Rattle.lx_desk.proofs.Imports.{Err, IsOk, IfSome, List, [], ◌∷◌, ◌++◌, length, take, refl, sym, ap, ◌∙◌, subst, arith, append_assoc}
-use Rattle.lx_desk.proofs.Imports.{length-append, Appends, INPUT_BYTES, SinkFault, Rose, AppendsFront, Lines, LinesBetween, unread, first_lines-more, Form}
-use Rattle.lx_desk.proofs.Imports.{TextFault, desk_lawful, front_of_whole, Script, Live, lines_of, opened, HasNoFeed, first_lines, over_show, Reading, reads}
-use Rattle.lx_desk.proofs.Imports.{script_of, lines_read, first_replies, input_lines_wanted, input_wanted, script_output, ScriptAllows, begin_at}
+use Rattle.lx_desk.proofs.Imports.{◌≡◌, ◌≢◌, ◌⊎◌, inl, inr, true, false, ℕ, ◌+◌, ◌-◌, ◌≤◌, Option, Some, None, Result, Ok}
+use Rattle.lx_desk.proofs.Imports.{Err, IsOk, IfSome, List, length, refl, sym, ap, ◌∙◌, subst, arith}
+use Rattle.lx_desk.proofs.Imports.{Appends, INPUT_BYTES, SinkFault, Rose, AppendsFront, Lines, LinesBetween, unread, Form}
+use Rattle.lx_desk.proofs.Imports.{TextFault, desk_lawful, front_of_whole, Script, Live, lines_of, opened, over_show, Reading, reads}
+use Rattle.lx_desk.proofs.Imports.{script_of, lines_read, first_replies, input_lines_wanted, input_wanted, ScriptAllows, begin_at}
 use Rattle.lx_desk.proofs.Imports.{answered_lines, lines_wanted, bytes_wanted, begun, desk_answering, Show, Loaded, ShowFault, reading_of, HasRead, Status}
 use Rattle.lx_desk.proofs.Imports.{WritesPrefix, RepliesToTaken, RefusedBy, EndsJob, HasEnded, live_session, live_after, LiveAllows, HaveVersions, PlaysScript}
 use Rattle.lx_desk.proofs.Imports.{AmpleMemory, AreServed, PlaysInFront, PlaysTaken, HasPlayedLive, PlaysWhole, LivesInFront, LivesTaken, HasLived, PlaysToEnd, LivesToEnd}
@@ -11,7 +11,7 @@ use Rattle.lx_desk.proofs.Imports.{LacksMemory, HasFailedOutlet, DecidesInOrder,
 use Rattle.lx_desk.specs.declared.desk.Status.TheVariants as status
 use Rattle.lx_desk.proofs.Imports.{Check, IsErr, NothingOfCut, status_kept}
 use Rattle.lx_desk.proofs.Inputs.{check_tells, kept_is, refusal_cut}
-use Rattle.lx_desk.proofs.Inputs.{Says, means_of, session_long, session_fits, refusal_isnt_ok, front_nothing, if_known, both_known, over_loaded}
+use Rattle.lx_desk.proofs.Inputs.{Says, means_of, session_long, session_fits, refusal_isnt_ok, if_known, both_known, over_loaded}
 use Rattle.lx_desk.proofs.EmptyPrefixes.{unwritten_as}
 use Rattle.lx_desk.proofs.Inputs.{cut_from, wanted_read, script_over}
 use Rattle.lx_desk.proofs.AnyFailures.{each_allowed}

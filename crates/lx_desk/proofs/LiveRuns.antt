@@ -1,11 +1,11 @@
 -- What the status of a live run says of its output and of its outlets.
-use Rattle.lx_desk.proofs.Imports.{◌≡◌, ◌≢◌, inl, inr, ℕ, zero, suc, ◌<◌, ◌≤◌, Bool, true, false, ◌||◌, Option, Some, None, Result}
+use Rattle.lx_desk.proofs.Imports.{◌≡◌, inl, inr, ℕ, zero, suc, ◌<◌, ◌≤◌, Bool, true, false, Option, Some, None, Result}
 use Rattle.lx_desk.proofs.Imports.{Ok, Err, IfSome, List, [], ◌∷◌, ◌++◌, length, take, drop, slice_get, refl, sym, ap, ◌∙◌, subst, arith}
-use Rattle.lx_desk.proofs.Imports.{append-nil, take_all, ◌+◌, HandsOnReplies, INPUT_BYTES, list_any, same_Some, SinkFault, Lines, Command, lines_of, Show, opened}
+use Rattle.lx_desk.proofs.Imports.{append-nil, take_all, ◌+◌, HandsOnReplies, INPUT_BYTES, same_Some, SinkFault, Lines, Command, lines_of, Show, opened}
 use Rattle.lx_desk.proofs.Imports.{Kept, Answering, Session, begin_at, after_each, answered_lines, Allows, bytes_wanted, DeskState, begun, desk_answering}
-use Rattle.lx_desk.proofs.Imports.{StandsFor, SessionFault, Tally, HasDone, AnsweredWhole, AnsweredPrefix, AnsweredTaken, ScriptAnswered, KeepsLimit}
-use Rattle.lx_desk.proofs.Imports.{HasSessionCause, IsFull, Status, status_for, HasCauseOf, live_session, LiveAllows, HaveVersions, PlaysScript, HaveGot}
-use Rattle.lx_desk.proofs.Imports.{AmpleMemory, AreServed, PlaysInFront, PlaysTaken, HasPlayedLive, ArePlayed, OutletFailed, PlaysToEnd, LacksMemory, HasFailedOutlet}
+use Rattle.lx_desk.proofs.Imports.{SessionFault, Tally, HasDone, AnsweredWhole, AnsweredPrefix, AnsweredTaken, ScriptAnswered, KeepsLimit}
+use Rattle.lx_desk.proofs.Imports.{HasSessionCause, IsFull, Status, status_for, live_session, LiveAllows, HaveVersions, PlaysScript, HaveGot}
+use Rattle.lx_desk.proofs.Imports.{AmpleMemory, AreServed, PlaysInFront, PlaysTaken, HasPlayedLive, OutletFailed, PlaysToEnd, LacksMemory, HasFailedOutlet}
 use Rattle.lx_desk.proofs.Imports.{DecidesInOrder, Finishes, HasLiveCause, TellsOutlets, TellsRun, Appends, AppendsFront, ToldBySink, ToldBySource}
 use Rattle.std.specs.Prelude.{◌&&◌}
 use Rattle.lx_desk.proofs.Imports.{◌-◌, AppendsAtLeast, desk_lawful, drop_at, more_of_whole, take-append-drop}

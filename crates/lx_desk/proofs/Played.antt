@@ -2,7 +2,7 @@
 use Rattle.lx_desk.proofs.Imports.{◌≡◌, ℕ, Result, Ok, Err, HandsOnReplies, Option, IfSome, List, refl, sym, subst, arith, inl, Lines, bytes_taken}
 use Rattle.lx_desk.proofs.Imports.{source_faults, source_left, unread, lines_of, Answering, SessionFault, Tally, HasSessionCause, KeepsLimit, AnsweredPrefix, AnsweredWhole}
 use Rattle.lx_desk.proofs.Imports.{AnsweredTaken, ScriptAnswered, front_of_whole, first_of_whole, Status, status_for, AnswersInFront, AnswersScript, AnswersTaken, HasPlayed}
-use Rattle.lx_desk.proofs.Imports.{Plays, ToldBySink, ToldBySource, ◌≤◌, Bool, false, Appends, AppendsFront, Session, Rose, ByMemory, HasStood}
+use Rattle.lx_desk.proofs.Imports.{Plays, ToldBySink, ToldBySource, ◌≤◌, Bool, false, Appends, AppendsFront, Session, Rose, ByMemory}
 use Rattle.lx_desk.proofs.Imports.{spared, spared_lawful, stood_since}
 use Rattle.lx_desk.proofs.AmpleFailures.{failed_so}
 use Rattle.lx_session.specs.OneAnswer.{IsLawful}

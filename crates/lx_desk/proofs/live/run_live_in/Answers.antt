@@ -1,4 +1,4 @@
-use Rattle.lx_desk.proofs.Imports.{EndsScript, inl, refl, false, true, arith, stood_since, IfSome, sym, ap, ◌∙◌, subst, HasLived, DecidesInOrder, HasLiveCause, LivesToEnd, IsDone, Finishes, Err}
+use Rattle.lx_desk.proofs.Imports.{EndsScript, inl, refl, arith, stood_since, IfSome, sym, ap, ◌∙◌, subst, HasLived, DecidesInOrder, HasLiveCause, LivesToEnd, IsDone, Finishes, Err}
 use Rattle.lx_desk.proofs.Finishing.{after_reads, refusal_reads, refusal_wanted}
 use Rattle.lx_desk.proofs.LiveRuns.{as_live, live_since}
 use Rattle.lx_desk.proofs.Statuses.{as_live_cause, cause_behind, live_behind, refusal_cause}
