@@ -1,6 +1,6 @@
 -- Entries that are put into a show one after another.
-use Rattle.lx_reader.proofs.Imports.{◌≡◌, ℕ, false, List, [], ◌∷◌, ◌++◌, map, refl, ap, ◌∙◌, sym, append_assoc, IsTrue, Result, Ok, Err}
-use Rattle.lx_reader.proofs.Imports.{fold, max, map-append, fold-append, PatchRow, placed, all_placed, Show, with_rows, all_triples, onto}
+use Rattle.lx_reader.proofs.Imports.{◌≡◌, ℕ, List, [], ◌∷◌, ◌++◌, map, refl, ap, ◌∙◌, sym, append_assoc, Result, Ok, Err, fold, max, map-append}
+use Rattle.lx_reader.proofs.Imports.{fold-append, PatchRow, placed, all_placed, Show, with_rows, all_triples, onto}
 
 pub rows-again : (xs ys : List PatchRow) (show : Show) → with_rows ys (with_rows xs show) ≡ with_rows (xs ++ ys) show
 rows-again xs ys show =
@@ -37,6 +37,3 @@ rows_more i old mid new all rest rest' row so_far next is = record {
   list = so_far.list ∙ ap (onto so_far.done) next ∙ onto_again so_far.done (row ∷ []) (all_triples i rest');
   show = is ∙ ap (with_rows (row ∷ [])) so_far.show ∙ rows-again so_far.done (row ∷ []) old;
 }
-
-is_nothing : IsTrue false → ⊥
-is_nothing h = cc

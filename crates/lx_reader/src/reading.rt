@@ -13,7 +13,7 @@ ghost use Rattle.lx_spec.specs.LineRules.{entry_by_word, entry_of, inner_entry, 
 ghost use Rattle.lx_spec.specs.Text.{tokens};
 ghost use Rattle.lx_lex.specs.Left.{left};
 ghost use Rattle.lx_reader.specs.declared.open_record.Open.TheVariants as open_records;
-ghost use Rattle.lx_reader.specs.LineOutcome.{CanGoOn, Outcome, Said, facts_of, is_known, is_outer};
+ghost use Rattle.lx_reader.specs.LineOutcome.{CanGoOn, Outcome, Said, facts_of, is_known, is_outer, new_reader};
 ghost use Rattle.lx_reader.specs.LineOfCue.{is_levels};
 ghost use Rattle.lx_reader.specs.Settled.{PassFits, is_open, is_record, settled};
 
@@ -45,11 +45,7 @@ pub(crate) struct ShowPass {
 impl ShowPass {
     /// Nothing was read yet.
     pub(crate) fn new(alloc: Global, show: Show) -> ShowPass
-        ensures show { (settled result).show ≡ show }
-        ensures channels_set { (settled result).channels_set ≡ None }
-        ensures skipped { ((settled result).skipped ≡ 0) × ((settled result).first_skipped ≡ 0) }
-        ensures facts { ((settled result).identified ≡ false) × ((settled result).section ≡ NoRecord) × ((settled result).part ≡ 1) }
-        ensures ended { (settled result).ended ≡ false }
+        ensures reader { settled result ≡ new_reader show }
         ensures fits { PassFits result }
     {
         ShowPass {
