@@ -66,7 +66,7 @@ pub use Rattle.lx_spec.specs.declared.TextFault.{TextFault}
 pub use Rattle.lx_spec.specs.declared.TextFault.TheVariants.{LineTooLong, NoEndData, NoIdent, OutOfRange, ShortList}
 pub use Rattle.lx_spec.specs.declared.Word.{Word}
 pub use Rattle.std.proofs.Math.Seq.{take-append_seam}
-pub use Rattle.std.proofs.lemmas.Bool.{cases_Bool, cases_eq, false≢true}
+pub use Rattle.std.proofs.lemmas.Bool.{and_right, cases_Bool, cases_eq, cond_both, false_from_ne_true, false≢true, true≢false}
 pub use Rattle.std.proofs.lemmas.Bool.Decides.{nat_tests}
 pub use Rattle.std.proofs.lemmas.Grind.{flat_map-append}
 pub use Rattle.std.proofs.lemmas.List.{drop-append-le, drop_all, length-map, map-append, reverse-append}

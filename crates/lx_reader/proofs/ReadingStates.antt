@@ -6,7 +6,7 @@ use Rattle.lx_reader.proofs.Imports.{fold-append, count_by-le-length, DEFAULT_CH
 use Rattle.lx_reader.proofs.Imports.{channels_set, clears_all, is_skipped, section_begun, part_named, cue_in, facts_after, with_cue_named}
 use Rattle.lx_reader.proofs.Imports.{reading_from, numbers_begun, channels_named, last_in, IsOpen, ReadingState, later, first_state, state_after}
 use Rattle.lx_reader.proofs.Imports.{placed_in, facts_in, final_reading, show_with, number_begun, inl, inr, suc, eq_above, cases_Bool}
-use Rattle.lx_reader.proofs.Imports.{position_from-zero, position_from}
+use Rattle.lx_reader.proofs.Imports.{position_from-zero, position_from, and_right}
 use Rattle.lx_reader.proofs.LastEntries.{last_in-more}
 use Rattle.lx_reader.proofs.Shows.{show_so_far, show-more, greatest-from, IsRooted, IsBegun}
 use Rattle.lx_reader.proofs.EntryRoots.{rooted-none, rooted-more}
@@ -52,10 +52,6 @@ first_number test xs = option_map_or (λ i. i + 1) (position test xs) 0
 abbrev number_from : {A : Type 0} → (A → Bool) → ℕ → List A → ℕ
 number_from test n xs = option_map_or (λ i. i + 1) (position_from test n xs) 0
 
-not_both : {A : Type 0} (b : Bool) (x y : A) → cond (b && false) x y ≡ y
-not_both true x y = refl
-not_both false x y = refl
-
 from_push : {A : Type 0} (test : A → Bool) (xs : List A) (x : A) (n : ℕ)
     → number_from test n (xs ++ x ∷ []) ≡ cond (test x && count_by test xs == 0) (n + length xs + 1) (number_from test n xs)
 from_push test [] x n = elim (test x) as (λ b. option_map_or (λ i. i + 1) (cond b (Some n) None) 0 ≡ cond (b && true) (n + 0 + 1) 0)
@@ -64,7 +60,7 @@ from_push test (y ∷ xs) x n = elim (cases_Bool (test y)) [
   | inl is ↦
       let some : (fold (λ a z. a + one_if (test z)) 1 xs == 0) ≡ false =
       eq_above (fold (λ a z. a + one_if (test z)) 1 xs) 0 (omega (arith, count_from test xs 1)) in
-      rw is (sym (ap (λ b. cond (test x && b) (n + suc (length xs) + 1) (n + 1)) some ∙ not_both (test x) (n + suc (length xs) + 1) (n + 1)))
+      rw is (sym (ap (λ b. cond b (n + suc (length xs) + 1) (n + 1)) (and_right (test x) _ some)))
   | inr is ↦ rw is (from_push test xs x (n + 1) ∙ ap (λ k. cond (test x && count_by test xs == 0) k (number_from test (n + 1) xs)) (omega arith))
 ]
 
