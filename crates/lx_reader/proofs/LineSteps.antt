@@ -31,15 +31,11 @@ abbrev pub said_with : (ℕ → ℕ → Entry) → Result (ℕ × ℕ) TextFault
 said_with entry (Ok t) = Ok (entry t.0 t.1)
 said_with entry (Err fault) = Err fault
 
-delay_next : (i : ℕ) (entry : ℕ → ℕ → Entry) (time : ℕ) (d : Result ℕ TextFault)
-    → (d >>= (λ delay. Ok (entry time delay))) ≡ said_with entry (d >>= (λ delay. let both : ℕ × ℕ = (time, delay) in Ok both))
-delay_next i entry time (Ok delay) = refl
-delay_next i entry time (Err fault) = refl
-
 times_from : (i : ℕ) (entry : ℕ → ℕ → Entry) (t d : Result ℕ TextFault)
     → (t >>= (λ time. d >>= (λ delay. Ok (entry time delay))))
     ≡ said_with entry (t >>= (λ time. d >>= (λ delay. let both : ℕ × ℕ = (time, delay) in Ok both)))
-times_from i entry (Ok time) d = delay_next i entry time d
+times_from i entry (Ok time) (Ok delay) = refl
+times_from i entry (Ok time) (Err fault) = refl
 times_from i entry (Err fault) d = refl
 
 pub times-next : (i : ℕ) (entry : ℕ → ℕ → Entry) (rest : List (List ℕ)) → times i entry rest ≡ said_with entry (next_times i rest)
@@ -55,10 +51,6 @@ pub times_ok : (i : ℕ) (entry : ℕ → ℕ → Entry) (rest : List (List ℕ)
 times_ok i entry rest times_read is = times-next i entry rest ∙ ap (said_with entry) (sym is)
 
 -- Rows of the patch.
-rows_from : (i : ℕ) (rest : List (List ℕ)) (r : Result (List PatchRow) TextFault) → all_triples i rest ≡ r
-    → (all_triples i rest >>= (λ rows. Ok (Patches rows))) ≡ (r >>= (λ rows. Ok (Patches rows)))
-rows_from i rest r is = ap (λ v. v >>= (λ rows. Ok (Patches rows))) is
-
 patch_says : (old : Reader) (i : ℕ) (page : List ℕ) (rest : List (List ℕ)) → old.identified ≡ true → is_ok (read_whole 1 1 page) ≡ true
     → entry_by_word (facts_of old i) [] words.Patch (page ∷ rest) ≡ (all_triples i rest >>= (λ rows. Ok (Patches rows)))
 patch_says old i page rest identified one =
@@ -75,13 +67,13 @@ rows_ok : (old : Reader) (show : Show) (i : ℕ) (page : List ℕ) (rest : List 
 rows_ok old show i page rest (Err fault) going identified one list is = absurd is
 rows_ok old show i page rest (Ok rows) going identified one list is =
     took old (patched old show) i (entry_by_word (facts_of old i) [] words.Patch (page ∷ rest)) (Patches rows)
-    (patch_says old i page rest identified one ∙ rows_from i rest (Ok rows) list)
+    (patch_says old i page rest identified one ∙ ap (λ v. v >>= (λ rows. Ok (Patches rows))) list)
     (record { state = λ j. record (state_of (patched old show)) { show = is j }; ended = going })
 
 rows_stop : (stop : ShowFault) (old : Reader) (i : ℕ) (page : List ℕ) (rest : List (List ℕ)) → old.identified ≡ true
     → is_ok (read_whole 1 1 page) ≡ true → IsFaultOf stop (all_triples i rest)
     → IsFaultOf stop (entry_by_word (facts_of old i) [] words.Patch (page ∷ rest))
-rows_stop (faults.Text fault) old i page rest identified one is = patch_says old i page rest identified one ∙ rows_from i rest (Err fault) is
+rows_stop (faults.Text fault) old i page rest identified one is = patch_says old i page rest identified one ∙ ap (λ v. v >>= (λ rows. Ok (Patches rows))) is
 rows_stop faults.Memory old i page rest identified one is = tt
 rows_stop faults.ReadFault old i page rest identified one is = absurd is
 rows_stop faults.InputTooLong old i page rest identified one is = absurd is
@@ -104,15 +96,11 @@ record_said section (Ok (Some n)) = Ok (Begins (section n))
 record_said section (Ok None) = Ok (Skipped (Some Skipping))
 record_said section (Err fault) = Err fault
 
-number_said : (section : ℕ → Section) (r : Result ℕ TextFault)
-    → (r >>= (λ n. Ok (Begins (section n)))) ≡ record_said section (r >>= (λ n. Ok (Some n)))
-number_said section (Ok n) = refl
-number_said section (Err fault) = refl
-
 record_from : (section : ℕ → Section) (r : Result ℕ TextFault) (one : Bool)
     → cond one (r >>= (λ n. Ok (Begins (section n)))) (Ok (Skipped (Some Skipping)))
     ≡ record_said section (cond one (r >>= (λ n. Ok (Some n))) (Ok None))
-record_from section r true = number_said section r
+record_from section (Ok n) true = refl
+record_from section (Err fault) true = refl
 record_from section r false = refl
 
 pub record-said : (i : ℕ) (section : ℕ → Section) (read : List ℕ → Result ℕ Bad) (rest : List (List ℕ))

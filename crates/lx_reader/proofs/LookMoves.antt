@@ -6,7 +6,7 @@ use Rattle.lx_reader.proofs.Imports.{filter-append, Move, Part, from_looks, IsSt
 use Rattle.lx_reader.proofs.Imports.{entries_above, Cue, Show, InRange, ValidMove, ValidCue, Valid, cue_of, move_in, level_in, changed, kept_by}
 use Rattle.lx_reader.proofs.Imports.{find_has, seam, goes_between, stands_between, all_at_seam, below_seam, above_seam, All-placed}
 use Rattle.lx_reader.proofs.Imports.{IsStrictlySorted-placed, entry_number, found_valid, length-placed_there, with_other_moves, with_cues, last_look}
-use Rattle.lx_reader.proofs.Imports.{look_changes, look_move, moves_up_to, with_look}
+use Rattle.lx_reader.proofs.Imports.{look_changes, look_move, moves_up_to, with_look, cond_both}
 
 all_map : {A B : Type 0} (P : A → Type 0) (Q : B → Type 0) (f : A → B) (xs : List A) → ((x : A) → P x → Q (f x)) → AllByRecursion P xs
     → AllByRecursion Q (map f xs)
@@ -79,15 +79,13 @@ moves_valid before cue channels valid =
     (range_in 1 channels channels (omega arith) (omega arith)))
 
 -- and sorted
-sorted_step : (x : Move) (ms : List Move) (b : Bool) → IsStrictlySorted (λ m. m.chan) ms
-    → IsStrictlySorted (λ m. m.chan) (cond b (placed (λ m. m.chan) x ms) ms)
-sorted_step x ms true sorted = IsStrictlySorted-placed (λ m. m.chan) x ms sorted
-sorted_step x ms false sorted = sorted
-
 moves_sorted : (before : ℕ → ℕ) (cue : Cue) (n : ℕ) → IsStrictlySorted (λ m. m.chan) (moves_up_to before cue n)
 moves_sorted before cue zero = tt
 moves_sorted before cue (suc n) = subst (IsStrictlySorted (λ m. m.chan)) (moves_suc before cue n)
-    (sorted_step (look_move cue (suc n)) (moves_up_to before cue n) (look_changes before cue (suc n)) (moves_sorted before cue n))
+    (cond_both (look_changes before cue (suc n)) (placed (λ m. m.chan) (look_move cue (suc n)) (moves_up_to before cue n))
+    (moves_up_to before cue n) (IsStrictlySorted (λ m. m.chan))
+    (λ is. IsStrictlySorted-placed (λ m. m.chan) (look_move cue (suc n)) (moves_up_to before cue n) (moves_sorted before cue n))
+    (λ is. moves_sorted before cue n))
 
 -- so the show is valid where its cue has them
 valid_with : (show : Show) (n : ℕ) (moves : List Move) (o : Option Cue) → Valid show → cue_of show n ≡ o

@@ -168,7 +168,7 @@ cues_after all t e false clears state =
     let more : since_cleared (all ++ s ∷ []) ≡ since_cleared all ++ s ∷ [] = after_push (λ z. clears_all z.entry) all s false clears in
     state_cues (all ++ s ∷ []) (state_after (length all + 1) e t) (state_more all t e state)
     ∙ ap (numbers_begun cue_in) more
-    ∙ sym (cues_next (since_cleared all) s (number_begun cue_in e) (map (λ cue. cue.number) t.show.cues) refl (state_cues all t state))
+    ∙ sym (cues_next (since_cleared all) s (map (λ cue. cue.number) t.show.cues) (state_cues all t state))
 
 pub state_facts : (all : List PlacedEntry) (t : ReadingState) (e : Entry) → IsStateOf all t
     → facts_after (facts_in t (length all + 1)) e ≡ facts_in (state_after (length all + 1) e t) (length all + 1 + 1)
