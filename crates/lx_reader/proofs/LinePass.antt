@@ -2,13 +2,13 @@
 use Rattle.lx_reader.proofs.Imports.{◌≡◌, ℕ, ◌+◌, ◌<◌, ◌≤◌, true, false, List, [], ◌∷◌, length, Result, Ok, Err, refl, ap, ◌∙◌, sym, subst, inl, inr}
 use Rattle.lx_reader.proofs.Imports.{IfSome, IsOkAnd, IsErrAnd, LINE_BYTES, Form, TextFault, LineTooLong, without_cr, Entry, Ends, is_end, entry_of}
 use Rattle.lx_reader.proofs.Imports.{Lines, HandedOut, too_long, ShowFault, Reader, first_state, state_after, final_reading, facts_of, state_of}
-use Rattle.lx_reader.proofs.Imports.{CanGoOn, IsStep, Outcome, MeansShow, MeansFault, IsLoaded, AnswerOf, TurnOf, ToldBySource, new_reader}
-use Rattle.lx_reader.proofs.Imports.{Show}
+use Rattle.lx_reader.proofs.Imports.{CanGoOn, IsStep, Outcome, MeansShow, MeansFault, IsLoaded, AnswerOf, TurnOf, ToldBySource, new_reader, Show}
 use Rattle.lx_lex.specs.declared.lines.Step.TheVariants as steps
 use Rattle.lx_reader.specs.declared.fault.ShowFault.TheVariants as faults
 use Rattle.lx_reader.specs.declared.loaded.Loaded.{Loaded}
 use Rattle.lx_reader.proofs.ReadLines.{long_entry}
-use Rattle.lx_reader.proofs.PassedLines.{PassedLines, lines_none, lines_sound, lines_more, lines_ended, lines_refused, lines_open}
+use Rattle.lx_reader.proofs.ReadingStates.{state_open}
+use Rattle.lx_reader.proofs.PassedLines.{PassedLines, lines_none, lines_few, lines_more, lines_ended, lines_refused, lines_open}
 use Rattle.lx_reader.proofs.PassedLines.{lines_past_limit, lines_cut}
 
 -- A line that was handed out and given to the reader.
@@ -30,11 +30,7 @@ line_turn told l l' r q (Err (faults.Text fault)) raw line i handed is number to
 -- no line is a failed read
 pub no_read_fault : {P : Type 0} (r q : Reader) (i : ℕ) (result : Result (Unit {0}) ShowFault) (x : Result Entry TextFault)
     → Outcome r q i result x → result ≡ Err faults.ReadFault → P
-no_read_fault r q i (Ok done) x took read = cc
-no_read_fault r q i (Err faults.ReadFault) x took read = absurd took
-no_read_fault r q i (Err faults.InputTooLong) x took read = absurd took
-no_read_fault r q i (Err faults.Memory) x took read = cc
-no_read_fault r q i (Err (faults.Text fault)) x took read = cc
+no_read_fault r q i result x took read = absurd (subst (λ v. Outcome r q i v x) read took)
 
 -- A line that is too long.
 pub long_turn : {S : Type 0} (told : ToldBySource S) (l l' : Lines S) (r q : Reader) (raw : List ℕ) (i : ℕ)
@@ -57,9 +53,11 @@ passage_none told l r going shows is = record {
 
 pub passage_ready : {S : Type 0} (told : ToldBySource S) (old l : Lines S) (r : Reader) → old.number ≡ 0
     → Passage told old l r → CanGoOn r (l.number + 1)
-passage_ready told old l r first passage =
-    let sound = lines_sound told old l (state_of r) first passage.past in
-    record { open_section = sound.open_section; few = sound.few; going = passage.going }
+passage_ready told old l r first passage = record {
+  open_section = state_open passage.past.so_far.placed (state_of r) passage.past.so_far.state;
+  few = lines_few told old l (state_of r) first passage.past;
+  going = passage.going;
+}
 
 the_ok : {A E : Type 0} (P : A → Type 0) (x : Result A E) → IsOkAnd x P → (a : A) × (x ≡ Ok a) × P a
 the_ok P (Ok a) is = (a, refl, is)
@@ -118,8 +116,7 @@ module _ {S : Type 0} (told : ToldBySource S) (old l l' : Lines S) (form : Form)
 -- lack of memory is no failed read
 pub loaded_read : {P : Type 0} (form : Form) (q : Reader) (result : Result Loaded ShowFault) → IsLoaded form q result
     → result ≡ Err faults.ReadFault → P
-loaded_read form q (Ok loaded) is read = cc
-loaded_read form q (Err fault) is read = cc
+loaded_read form q result is read = let memory = subst (IsLoaded form q) read is in cc
 
 -- a fault that is handed on
 pub handed_on : {S : Type 0} (told_in : ToldBySource S) (old l : Lines S) (form : Form) (result : Result Loaded ShowFault)

@@ -99,28 +99,6 @@ cue_said_by r moves old new q i (Ok false) x inside going says =
     (says.0, λ j. opened (record r { part = says.1.1 j }) (open_records.Cue (says.1.0 j)) moves)
 cue_said_by r moves old new q i (Err fault) x inside going says = says
 
-pub cue_said : (r : Reader) (moves : List Move) (old new : Cue) (q i : ℕ) (line : List ℕ) (word : Word) (rest : List (List ℕ))
-    (result : Result Bool TextFault) → r.section ≡ InCue old.number → r.ended ≡ false
-    → CueSays (cue_entry (facts_at i) line word rest) old new r.part q result
-    → Said (opened r (open_records.Cue old) moves) (opened (record r { part = q }) (open_records.Cue new) moves) i result
-    (inner_entry r.section (facts_of (opened r (open_records.Cue old) moves) i) line word rest)
-cue_said r moves old new q i line word rest result inside going says =
-    let t : ReadingState = state_of (opened r (open_records.Cue old) moves) in
-    subst (Said (opened r (open_records.Cue old) moves) (opened (record r { part = q }) (open_records.Cue new) moves) i result)
-    (sym (ap (λ s. inner_entry s (facts_in t i) line word rest) inside ∙ cue_at t i line word rest))
-    (cue_said_by r moves old new q i result (cue_entry (facts_at i) line word rest) inside going says)
-
--- the open cue fits as before
-pub cue_still : (show : Show) (moves : List Move) (old new : Cue) (p q : ℕ) (section : Section) (result : Result Bool TextFault)
-    (x : Result Entry TextFault) → section ≡ InCue old.number → CueFits show moves old → CueSays x old new p q result
-    → OnOk result ((section ≡ InCue new.number) × CueFits show moves new)
-cue_still show moves old new p q section (Ok true) (Ok e) inside fits says =
-    (inside ∙ ap (λ (c : Cue). InCue c.number) (sym says.cue), own_fits show moves old new p q e fits says)
-cue_still show moves old new p q section (Ok true) (Err fault) inside fits says = absurd says
-cue_still show moves old new p q section (Ok false) x inside fits says =
-    (inside ∙ ap (λ (c : Cue). InCue c.number) (sym says.1.0), subst (CueFits show moves) (sym says.1.0) fits)
-cue_still show moves old new p q section (Err fault) x inside fits says = tt
-
 -- the open part is one of the cue's
 pub open_part : (r : Reader) (moves : List Move) (cue : Cue) → r.section ≡ InCue cue.number
     → IsOpen (with_open (open_records.Cue cue) moves r.show) r.section r.part → IsTrue (has_entry (λ p. p.number) r.part cue.parts)
@@ -201,15 +179,24 @@ pub said_in_cue : (r : Reader) (moves : List Move) (o : Open) (old new : Cue) (q
     → Said (opened r o moves) (opened (record r { part = q }) (open_records.Cue new) moves) i result
     (inner_entry r.section (facts_of (opened r o moves) i) line word rest)
 said_in_cue r moves o old new q i line word rest result is fits going says =
+    let inside = (held_cue r moves o old is fits).0 in
+    let t : ReadingState = state_of (opened r (open_records.Cue old) moves) in
     subst (λ (p : Open). Said (opened r p moves) (opened (record r { part = q }) (open_records.Cue new) moves) i result
     (inner_entry r.section (facts_of (opened r p moves) i) line word rest)) (sym is)
-    (cue_said r moves old new q i line word rest result (held_cue r moves o old is fits).0 going says)
+    (subst (Said (opened r (open_records.Cue old) moves) (opened (record r { part = q }) (open_records.Cue new) moves) i result)
+    (sym (ap (λ s. inner_entry s (facts_in t i) line word rest) inside ∙ cue_at t i line word rest))
+    (cue_said_by r moves old new q i result (cue_entry (facts_at i) line word rest) inside going says))
 
 pub fits_in_cue : (r : Reader) (moves : List Move) (o : Open) (old new : Cue) (q : ℕ) (result : Result Bool TextFault) (x : Result Entry TextFault)
     → o ≡ open_records.Cue old → OpenFits r.show r.section moves o → CueSays x old new r.part q result
     → OnOk result ((r.section ≡ InCue new.number) × CueFits r.show moves new)
-fits_in_cue r moves o old new q result x is fits says =
-    let held = held_cue r moves o old is fits in cue_still r.show moves old new r.part q r.section result x held.0 held.1 says
+fits_in_cue r moves o old new q (Ok true) (Err fault) is fits says = absurd says
+fits_in_cue r moves o old new q (Ok true) (Ok e) is fits says =
+    let held = held_cue r moves o old is fits in
+    (held.0 ∙ ap (λ (c : Cue). InCue c.number) (sym says.cue), own_fits r.show moves old new r.part q e held.1 says)
+fits_in_cue r moves o old new q (Ok false) x is fits says =
+    subst (λ (c : Cue). (r.section ≡ InCue c.number) × CueFits r.show moves c) (sym says.1.0) (held_cue r moves o old is fits)
+fits_in_cue r moves o old new q (Err fault) x is fits says = tt
 
 -- A group or submaster, as it is seen and as it is.
 pub said_in_set : (make : MemberSet → Open) (section : Section) (r : Reader) (moves : List Move) (o : Open) (set seen : MemberSet)

@@ -3,14 +3,14 @@ use Rattle.lx_reader.proofs.Imports.{◌≡◌, ℕ, ◌<◌, ◌≤◌, ◌+◌
 use Rattle.lx_reader.proofs.Imports.{ap, ◌∙◌, sym, subst, inl, inr, arith, append_assoc, length-append, drop, IfSome, take-append_seam, map-append}
 use Rattle.lx_reader.proofs.Imports.{length-map, INPUT_BYTES, Form, TextFault, NoEndData, desk_limits, without_cr, lines_of, Entry, is_end, entry_of}
 use Rattle.lx_reader.proofs.Imports.{reads_lines, lines_read, script_of, Lines, StepOf, LinesBetween, NotTaken, HandedOut, unread, current_line}
-use Rattle.lx_reader.proofs.Imports.{handed_none, handed_then, cut_off, IsOpen, ReadingState, first_state, state_after, facts_in, final_reading}
-use Rattle.lx_reader.proofs.Imports.{MeansShow, MeansFault, IsPastLimit, IsCutShort, ToldBySource}
+use Rattle.lx_reader.proofs.Imports.{handed_none, handed_then, cut_off, ReadingState, first_state, state_after, facts_in, final_reading, MeansShow}
+use Rattle.lx_reader.proofs.Imports.{MeansFault, IsPastLimit, IsCutShort, ToldBySource}
 use Rattle.std.specs.Io.KnownBytes.{IsAtEnd}
 use Rattle.lx_spec.specs.declared.Form.TheVariants.{Moves}
 use Rattle.lx_spec.specs.CutInput.{CutOff, first_lines}
 use Rattle.lx_lex.specs.declared.lines.Step.TheVariants as steps
 use Rattle.lx_lex.proofs.TakenLines.{next_too_long, all_texts, texts}
-use Rattle.lx_reader.proofs.ReadingStates.{state_open, skipped_few}
+use Rattle.lx_reader.proofs.ReadingStates.{skipped_few}
 use Rattle.lx_reader.proofs.ReadLines.{ReadSoFar, Ended, Refused, read_none, read_more, read_refused, read_ended, read_open, wanted_more}
 use Rattle.lx_reader.proofs.ReadLines.{wanted_one}
 
@@ -67,24 +67,14 @@ cut_short None left taken n cut wanted = tt
 cut_short (Some bytes) left taken n cut wanted =
     record { cut = cut.0; wanted = subst (λ k. k < lines_read (lines_of bytes)) (sym cut.1) wanted }
 
--- the section is open, and few lines were skipped
-pub record IsSound (i : ℕ) (t : ReadingState) : Type 0 where
-  pub open_section : IsOpen t.show t.section t.part
-  pub few : t.skipped < i
-
 module _ {S : Type 0} (told : ToldBySource S) (old l : Lines S) (t : ReadingState) (first : old.number ≡ 0) (past : PassedLines told old l t)
   where
     -- the line that is read next, by its number
     next_number : l.number + 1 ≡ length (map without_cr past.raws) + 1
     next_number = omega (arith, past.handed.number, length-map past.raws without_cr)
 
-    pub lines_sound : IsSound (l.number + 1) t
-    lines_sound =
-        let so_far = past.so_far in
-        record {
-          open_section = state_open so_far.placed t so_far.state;
-          few = omega (arith, skipped_few so_far.placed t so_far.state, so_far.count, next_number);
-        }
+    pub lines_few : t.skipped < l.number + 1
+    lines_few = omega (arith, skipped_few past.so_far.placed t past.so_far.state, past.so_far.count, next_number)
 
     -- one more line, after which the reading goes on
     pub lines_more : (l' : Lines S) (raw : List ℕ) (e : Entry) → HandedOut told l l' (raw ∷ [])
