@@ -3,7 +3,6 @@ use Rattle.lx_reader.proofs.Imports.{◌≡◌, ℕ, ◌+◌, ◌<◌, ◌≤◌
 use Rattle.lx_reader.proofs.Imports.{IfSome, IsOkAnd, IsErrAnd, LINE_BYTES, Form, TextFault, LineTooLong, without_cr, Entry, Ends, is_end, entry_of}
 use Rattle.lx_reader.proofs.Imports.{Lines, HandedOut, too_long, ShowFault, Reader, first_state, state_after, final_reading, facts_of, state_of}
 use Rattle.lx_reader.proofs.Imports.{CanGoOn, IsStep, Outcome, MeansShow, MeansFault, IsLoaded, AnswerOf, TurnOf, ToldBySource, new_reader, Show}
-use Rattle.lx_lex.specs.declared.lines.Step.TheVariants as steps
 use Rattle.lx_reader.specs.declared.fault.ShowFault.TheVariants as faults
 use Rattle.lx_reader.specs.declared.loaded.Loaded.{Loaded}
 use Rattle.lx_reader.proofs.ReadLines.{long_entry}

@@ -1,10 +1,10 @@
 -- Levels of a line that go to the open record.
 use Rattle.lx_reader.proofs.Imports.{◌≡◌, ℕ, ◌≤◌, true, false, List, [], ◌++◌, map, Ok, refl, ap, ◌∙◌, sym, subst, append-nil, arith, IsTrue, fold}
 use Rattle.lx_reader.proofs.Imports.{max, AllByRecursion, IsOkAnd, GROUPS, SUBS, Member, Move, InCue, InGroup, InSub, HasLevels, levels, ◌>>=◌}
-use Rattle.lx_reader.proofs.Imports.{desk_limits, Cue, MemberSet, Show, ValidMember, ValidMove, IsStrictlySorted, all_placed, has_entry, placed, each}
+use Rattle.lx_reader.proofs.Imports.{desk_limits, Cue, MemberSet, Show, ValidMember, ValidMove, IsStrictlySorted, all_placed, has_entry, each}
 use Rattle.lx_reader.proofs.Imports.{All-all_placed, IsStrictlySorted-all_placed, wider, wider_cue, wider_members, wider_move, Open, Reader, IsStep}
 use Rattle.lx_reader.proofs.Imports.{Outcome, ReadsLevels, members_of, IsOpen, cue_with, moves_of, set_with, CueFits, OpenFits, SetFits, filled_cue}
-use Rattle.lx_reader.proofs.Imports.{filled_set, is_open, with_open, None}
+use Rattle.lx_reader.proofs.Imports.{filled_set, is_open, with_open}
 use Rattle.lx_reader.specs.declared.open_record.Open.TheVariants as open_records
 use Rattle.lx_reader.proofs.Members.{greatest_each, greatest_least, moves_valid}
 use Rattle.lx_reader.proofs.OpenSteps.{open_part, opened, step_by}

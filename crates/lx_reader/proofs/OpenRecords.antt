@@ -1,9 +1,8 @@
 -- A record that begins: a new one, or one that was in the show, in whose place a bare one stands.
-use Rattle.lx_reader.proofs.Imports.{◌≡◌, ℕ, true, cond, List, Option, Some, None, refl, ap, ◌∙◌, sym, subst, IsTrue, ◌||◌, is_some, length, nat_lt}
+use Rattle.lx_reader.proofs.Imports.{◌≡◌, ℕ, true, cond, List, Option, Some, refl, ap, ◌∙◌, sym, subst, IsTrue, ◌||◌, is_some, length, nat_lt}
 use Rattle.lx_reader.proofs.Imports.{AllByRecursion, CUES, Move, IsStrictlySorted, entry_at, has_entry, placed, Cue, entry_at-placed_here}
 use Rattle.lx_reader.proofs.Imports.{entry_number, found_valid, placed_again, placed_same, Open, Reader, with_entry}
 use Rattle.lx_reader.specs.declared.open_record.Open.TheVariants as open_records
-use Rattle.lx_reader.proofs.LineSteps.{record-said, record_said}
 use Rattle.lx_reader.proofs.OpenSteps.{opened}
 
 -- the record that stood where a bare one of the number was put has that number

@@ -1,4 +1,4 @@
-use Rattle.lx_reader.proofs.Imports.{subst, sym, IsOkAnd, left, HasUp, HasDown, cue_entry, ChangesCue, CueSays, facts_at, refl, tokens}
+use Rattle.lx_reader.proofs.Imports.{subst, sym, IsOkAnd, left, HasUp, HasDown, cue_entry, ChangesCue, CueSays, facts_at, refl}
 use Rattle.lx_reader.proofs.LineSteps.{times_fault}
 use Rattle.lx_reader.proofs.OpenSteps.{cue_stops, times_say}
 use Rattle.lx_reader.proofs.record_lines.line_of_cue.Goals as goal

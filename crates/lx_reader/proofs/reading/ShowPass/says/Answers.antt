@@ -1,4 +1,4 @@
-use Rattle.lx_reader.proofs.Imports.{subst, GROUPS, SUBS, InGroup, InSub, left, cue_entry, members_entry, facts_at, refl, OpenFits, tokens}
+use Rattle.lx_reader.proofs.Imports.{subst, GROUPS, SUBS, InGroup, InSub, left, cue_entry, members_entry, facts_at, refl, OpenFits}
 use Rattle.lx_reader.specs.declared.open_record.Open.TheVariants as open_records
 use Rattle.lx_reader.proofs.OpenSteps.{fits_in_cue, fits_in_set, group_step, parts_open, said_in_cue, said_in_set, sub_step}
 use Rattle.lx_reader.proofs.reading.ShowPass.says.Goals as goal
