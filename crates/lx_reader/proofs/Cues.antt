@@ -1,11 +1,10 @@
 -- A cue from the entries in its sections, with one more.
-use Rattle.lx_reader.proofs.Imports.{◌≡◌, ℕ, Bool, true, false, cond, List, [], ◌∷◌, ◌++◌, map, Option, Some, None, refl, ap, ◌∙◌, sym}
-use Rattle.lx_reader.proofs.Imports.{append-nil, filter, fold, flat_map, filter_map, unwrap_or, ◌==◌, cons_option, flat_map-append, fold-append}
-use Rattle.lx_reader.proofs.Imports.{filter_map-append, DEFAULT_TIME, Part, Section, Cue, IsStrictlySorted, placed, has_entry, all_placed, Entry, PlacedEntry}
-use Rattle.lx_reader.proofs.Imports.{HasUp, HasDown, NamesPart, part_named, follow_in, link_in, label_in, up_in, down_in, blocks, is_assert, last_of_each}
-use Rattle.lx_reader.proofs.Imports.{last_in, moves_in, part_from, parts_from, label_from, cue_from, new_part, changed, part_with_entry, with_up, with_down}
-use Rattle.lx_reader.proofs.Imports.{parts_with, cue_with, change_by}
-use Rattle.lx_reader.proofs.LastEntries.{last_in-more, any-more, unwrap-later, filter-more}
+use Rattle.lx_reader.proofs.Imports.{◌≡◌, ℕ, Bool, true, false, cond, List, [], ◌∷◌, ◌++◌, map, Option, Some, None, refl, ap, ◌∙◌, sym, append-nil}
+use Rattle.lx_reader.proofs.Imports.{filter, fold, filter_map, unwrap_or, ◌==◌, cons_option, DEFAULT_TIME, Part, Section, Cue, IsStrictlySorted}
+use Rattle.lx_reader.proofs.Imports.{placed, has_entry, Entry, PlacedEntry, HasUp, HasDown, NamesPart, part_named, follow_in, link_in, label_in}
+use Rattle.lx_reader.proofs.Imports.{up_in, down_in, blocks, is_assert, last_of_each, last_in, moves_in, part_from, parts_from, label_from, cue_from}
+use Rattle.lx_reader.proofs.Imports.{new_part, changed, part_with_entry, with_up, with_down, parts_with, cue_with, change_by}
+use Rattle.lx_reader.proofs.LastEntries.{last_in-more, any-more, unwrap-later, filter-more, fold_flat-more, fold_picked-more}
 use Rattle.lx_reader.proofs.MadeEntries.{cond_same, after_change}
 use Rattle.lx_reader.proofs.PlacedNumbers.{changed-made, map-placed, placed-there, has_made, eq-sym, eq-here, IsStrictlySorted-numbers}
 
@@ -44,19 +43,13 @@ pub part_of-more : (about : List PlacedEntry) (s : PlacedEntry) (p : ℕ) → pa
 part_of-more about s p = ap (λ v. part_from v p) (filter-more (λ z. z.part == p) about s)
     ∙ part_from-some (filter (λ z. z.part == p) about) s p (s.part == p)
 
--- a part of which nothing was said
-pub part_of-none : (about : List PlacedEntry) (p : ℕ) → filter (λ s. s.part == p) about ≡ [] → part_of about p ≡ new_part p
-part_of-none about p none = ap (λ v. part_from v p) none
-
 -- the numbers of the cue's parts
 abbrev pub parts_named : List PlacedEntry → List ℕ
 parts_named about = last_of_each (λ n. n) (1 ∷ filter_map (λ s. part_named s.entry) about)
 
 pub parts_named-more : (about : List PlacedEntry) (s : PlacedEntry)
     → parts_named (about ++ s ∷ []) ≡ fold (λ ys x. placed (λ n. n) x ys) (parts_named about) (cons_option (part_named s.entry) [])
-parts_named-more about s =
-    ap (λ v. last_of_each (λ n. n) (1 ∷ v)) (filter_map-append (λ z. part_named z.entry) about (s ∷ []))
-    ∙ fold-append (λ ys x. placed (λ n. n) x ys) (1 ∷ []) (filter_map (λ z. part_named z.entry) about) (cons_option (part_named s.entry) [])
+parts_named-more about s = fold_picked-more (λ ys x. placed (λ n. n) x ys) (1 ∷ []) (λ z. part_named z.entry) about s
 
 -- the numbers of the parts rise
 parts_sorted : (about : List PlacedEntry) → IsStrictlySorted (λ m. m) (parts_named about)
@@ -128,14 +121,6 @@ parts-more about section p entry there fresh =
     let s : PlacedEntry = record { section = section; part = p; entry = entry } in
     (λ i. map (λ q. part_of-more about s q i) (parts_named-more about s i)) ∙ parts-with about section p entry there fresh
 
-moves-more : (about : List PlacedEntry) (s : PlacedEntry)
-    → last_of_each (λ m. m.chan) (flat_map moves_in (about ++ s ∷ []))
-    ≡ all_placed (λ m. m.chan) (moves_in s) (last_of_each (λ m. m.chan) (flat_map moves_in about))
-moves-more about s =
-    ap (λ v. last_of_each (λ m. m.chan) v) (flat_map-append moves_in about (s ∷ []))
-    ∙ fold-append (λ ys x. placed (λ m. m.chan) x ys) [] (flat_map moves_in about) (moves_in s ++ [])
-    ∙ ap (λ v. fold (λ ys x. placed (λ m. m.chan) x ys) (last_of_each (λ m. m.chan) (flat_map moves_in about)) v) (append-nil (moves_in s))
-
 pub label-more : (about : List PlacedEntry) (s : PlacedEntry)
     → label_from (about ++ s ∷ []) ≡ unwrap_or (label_in s.entry) (label_from about)
 label-more about s = ap (λ v. unwrap_or v []) (last_in-more label_in about s) ∙ unwrap-later (label_in s.entry) (last_in label_in about) []
@@ -157,7 +142,7 @@ cue_from-with about section p entry n there fresh =
     let link = last_in-more link_in about s in
     let label = label-more about s in
     let parts = parts-more about section p entry there fresh in
-    let moves = moves-more about s in
+    let moves = fold_flat-more (λ ys x. placed (λ m. m.chan) x ys) [] moves_in about s in
     (λ i. record {
       number = n;
       block = block i;

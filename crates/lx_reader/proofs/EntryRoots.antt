@@ -1,7 +1,7 @@
 -- Of what was not begun nothing was said, with one more entry.
-use Rattle.lx_reader.proofs.Imports.{◌≡◌, ℕ, Bool, true, false, cond, List, [], ◌∷◌, ◌++◌, Option, refl, ap, ◌∙◌, sym, append-nil}
-use Rattle.lx_reader.proofs.Imports.{filter, fold, ◌==◌, cons_option, eqb-true, placed, has_entry, Section, PlacedEntry, part_named, cue_in, group_in}
-use Rattle.lx_reader.proofs.Imports.{sub_in, numbers_begun, stands_in, number_begun}
+use Rattle.lx_reader.proofs.Imports.{◌≡◌, ℕ, Bool, true, false, cond, List, [], ◌∷◌, ◌++◌, Option, refl, ap, ◌∙◌, sym, append-nil, filter, fold, ◌==◌}
+use Rattle.lx_reader.proofs.Imports.{cons_option, eqb-true, placed, has_entry, Section, PlacedEntry, part_named, cue_in, group_in, sub_in}
+use Rattle.lx_reader.proofs.Imports.{numbers_begun, stands_in, number_begun, false_from_ne_true, true≢false}
 use Rattle.lx_reader.proofs.LastEntries.{filter-more}
 use Rattle.lx_reader.proofs.PlacedNumbers.{has-all_placed}
 use Rattle.lx_reader.proofs.Cues.{parts_named, parts_named-more, HasPart}
@@ -11,11 +11,8 @@ use Rattle.lx_reader.proofs.Shows.{begun-more, IsRootedBy, IsRooted, IsBegunBy, 
 absent_before : (n : ℕ) (more ns all : List ℕ) → all ≡ fold (λ ys x. placed (λ k. k) x ys) ns more → has_entry (λ m. m) n all ≡ false
     → has_entry (λ m. m) n ns ≡ false
 absent_before n more ns all is absent =
-    let at : (b : Bool) → has_entry (λ m. m) n ns ≡ b → b ≡ false = λ b. elim b as (λ b. has_entry (λ m. m) n ns ≡ b → b ≡ false) [
-      | true ↦ λ e. sym (has-all_placed n more ns e) ∙ ap (has_entry (λ m. m) n) (sym is) ∙ absent
-      | false ↦ λ e. refl
-    ] in
-    at (has_entry (λ m. m) n ns) refl
+    false_from_ne_true (has_entry (λ m. m) n ns)
+    (λ there. true≢false (sym (has-all_placed n more ns there) ∙ ap (has_entry (λ m. m) n) (sym is) ∙ absent))
 
 rooted_by : (number : Section → Option ℕ) (all : List PlacedEntry) (s : PlacedEntry) → IsRootedBy number all
     → IsBegunBy number all s.section → IsRootedBy number (all ++ s ∷ [])
@@ -23,11 +20,8 @@ rooted_by number all s rooted begun n absent =
     let before : has_entry (λ m. m) n (numbers_begun number all) ≡ false =
     absent_before n (cons_option (number_begun number s.entry) []) (numbers_begun number all) (numbers_begun number (all ++ s ∷ []))
     (begun-more number all s) absent in
-    let at : (b : Bool) → stands_in number n s ≡ b → b ≡ false = λ b. elim b as (λ b. stands_in number n s ≡ b → b ≡ false) [
-      | true ↦ λ e. sym (begun n e) ∙ before
-      | false ↦ λ e. refl
-    ] in
-    filter-more (stands_in number n) all s ∙ (λ j. rooted n before j ++ cond (at (stands_in number n s) refl j) (s ∷ []) [])
+    let other : stands_in number n s ≡ false = false_from_ne_true (stands_in number n s) (λ is. true≢false (sym (begun n is) ∙ before)) in
+    filter-more (stands_in number n) all s ∙ (λ j. rooted n before j ++ cond (other j) (s ∷ []) [])
 
 none_in_part : (about : List PlacedEntry) (s : PlacedEntry) (q : ℕ) (b : Bool)
     → (has_entry (λ m. m) q (parts_named about) ≡ false → filter (λ z. z.part == q) about ≡ []) → (b ≡ true → HasPart about s.part)
@@ -40,11 +34,9 @@ none_in_part about s q true rooted there absent =
     let before : has_entry (λ m. m) q (parts_named about) ≡ false =
     absent_before q (cons_option (part_named s.entry) []) (parts_named about) (parts_named (about ++ s ∷ [])) (parts_named-more about s)
     absent in
-    let at : (b : Bool) → (s.part == q) ≡ b → b ≡ false = λ b. elim b as (λ b. (s.part == q) ≡ b → b ≡ false) [
-      | true ↦ λ e. sym (there refl) ∙ ap (λ k. has_entry (λ m. m) k (parts_named about)) (eqb-true s.part q e) ∙ before
-      | false ↦ λ e. refl
-    ] in
-    filter-more (λ z. z.part == q) about s ∙ (λ j. rooted before j ++ cond (at (s.part == q) refl j) (s ∷ []) [])
+    let other : (s.part == q) ≡ false = false_from_ne_true (s.part == q)
+    (λ is. true≢false (sym (there refl) ∙ ap (λ k. has_entry (λ m. m) k (parts_named about)) (eqb-true s.part q is) ∙ before)) in
+    filter-more (λ z. z.part == q) about s ∙ (λ j. rooted before j ++ cond (other j) (s ∷ []) [])
 
 pub rooted-none : IsRooted []
 rooted-none = record { cues = λ n absent. refl; groups = λ g absent. refl; subs = λ n absent. refl; parts = λ n q absent. refl }

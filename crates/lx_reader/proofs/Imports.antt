@@ -17,7 +17,7 @@ pub use Rattle.lx_reader.specs.Answer.{AnswerOf, CutShort, FaultOf, HasRead, IsL
 pub use Rattle.lx_reader.specs.FieldLists.{all_pairs, all_triples, FirstIsMember, FirstIsRow, FirstIsWord, next_times, onto, record_number}
 pub use Rattle.lx_reader.specs.HandedLines.{IsCutShort, IsPastLimit, MeansFault, MeansShow}
 pub use Rattle.lx_reader.specs.LineOfCue.{ChangesCue, CueSays, facts_at, HasParts, HasRanges, is_own, LabelSays}
-pub use Rattle.lx_reader.specs.LineOutcome.{CanGoOn, facts_of, IsStep, Outcome, Said, state_of}
+pub use Rattle.lx_reader.specs.LineOutcome.{CanGoOn, facts_of, IsStep, new_reader, Outcome, Said, state_of}
 pub use Rattle.lx_reader.specs.LookMoves.{last_look, look_changes, look_move, moves_up_to, with_look}
 pub use Rattle.lx_reader.specs.OpenMoves.{AreNumbered, members_of, moves_there, ReadsLevels}
 pub use Rattle.lx_reader.specs.OpenRecord.{HasPartIn, IsOpen}
@@ -32,7 +32,7 @@ pub use Rattle.lx_show.proofs.ChangedCues.{with_other_moves, with_settings}
 pub use Rattle.lx_show.proofs.Stretches.{All-all_placed, IsStrictlySorted-all_placed}
 pub use Rattle.lx_show.proofs.ValidShows.{wider, wider_cue, wider_members, wider_move, with_channels, with_cues}
 pub use Rattle.lx_show.specs.ChangedEntry.{changed}
-pub use Rattle.lx_spec.proofs.Comparisons.{above_is_other, below_is_other, eq_below, eq_from, eq_true, lt_false, lt_true}
+pub use Rattle.lx_spec.proofs.Comparisons.{above_is_other, below_is_other, eq_above, eq_from, eq_true, lt_false, lt_true}
 pub use Rattle.lx_spec.proofs.Lists.{all_append, each, find_has, kept_by}
 pub use Rattle.lx_spec.proofs.SortedLists.{above_seam, All-placed, all_at_seam, below_seam, entry_at-placed_here, entry_at-placed_other, entry_number}
 pub use Rattle.lx_spec.proofs.SortedLists.{found_valid, goes_between, has_placed, IsStrictlySorted-placed, length-placed_there, placed_again, placed_same, seam}
@@ -66,14 +66,15 @@ pub use Rattle.lx_spec.specs.declared.TextFault.{TextFault}
 pub use Rattle.lx_spec.specs.declared.TextFault.TheVariants.{LineTooLong, NoEndData, NoIdent, OutOfRange, ShortList}
 pub use Rattle.lx_spec.specs.declared.Word.{Word}
 pub use Rattle.std.proofs.Math.Seq.{take-append_seam}
-pub use Rattle.std.proofs.lemmas.Bool.{cases_eq, false≢true}
+pub use Rattle.std.proofs.lemmas.Bool.{and_right, cases_Bool, cases_eq, cond_both, false_from_ne_true, false≢true, true≢false}
 pub use Rattle.std.proofs.lemmas.Bool.Decides.{nat_tests}
 pub use Rattle.std.proofs.lemmas.Grind.{flat_map-append}
 pub use Rattle.std.proofs.lemmas.List.{drop-append-le, drop_all, length-map, map-append, reverse-append}
 pub use Rattle.std.proofs.lemmas.List.Elements.{filter-append, filter_map-append}
-pub use Rattle.std.proofs.lemmas.List.Folds.{list_any-append, position_or_len_push}
+pub use Rattle.std.proofs.lemmas.Iterator.Adapters.{position_from-zero}
+pub use Rattle.std.proofs.lemmas.List.Folds.{list_any-append}
 pub use Rattle.std.proofs.lemmas.List.Sums.{count_by-le-length, fold-append, fold_more}
-pub use Rattle.std.specs.List.{after_last, AllByRecursion, cons_option, last_or, list_any, position_or_len, prefix_len, range_with_len, suffix_len}
+pub use Rattle.std.specs.List.{after_last, AllByRecursion, cons_option, last_or, list_any, position_from, prefix_len, range_with_len, suffix_len}
 pub use Rattle.std.specs.Option.{IsSomeAnd, option_map_or}
 pub use Rattle.std.specs.Result.{IsErrAnd, IsOkAnd}
 pub use Rattle.lx_io.specs.Told.{ToldBySource}

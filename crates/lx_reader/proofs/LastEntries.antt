@@ -1,7 +1,7 @@
 -- Lists of entries with one more at the end.
-use Rattle.lx_reader.proofs.Imports.{◌≡◌, Bool, true, false, cond, List, [], ◌∷◌, ◌++◌, Option, Some, None, refl, ap, ◌∙◌, ◌||◌}
-use Rattle.lx_reader.proofs.Imports.{filter, filter_map, unwrap_or, last_or, list_any, cons_option, filter-append, filter_map-append, list_any-append, Entry}
-use Rattle.lx_reader.proofs.Imports.{PlacedEntry, last_in, later}
+use Rattle.lx_reader.proofs.Imports.{◌≡◌, Bool, true, false, cond, List, [], ◌∷◌, ◌++◌, Option, Some, None, refl, ap, ◌∙◌, ◌||◌, filter, filter_map}
+use Rattle.lx_reader.proofs.Imports.{unwrap_or, last_or, list_any, cons_option, filter-append, filter_map-append, list_any-append, Entry, PlacedEntry}
+use Rattle.lx_reader.proofs.Imports.{last_in, later, append-nil, flat_map, fold, flat_map-append, fold-append}
 
 pub last_or-append : {A : Type 0} (o : Option A) (xs ys : List A) → last_or o (xs ++ ys) ≡ last_or (last_or o xs) ys
 last_or-append o [] ys = refl
@@ -35,3 +35,14 @@ unwrap-later (Some x) o d = refl
 pub filter-more : {A : Type 0} (test : A → Bool) (xs : List A) (x : A)
     → filter test (xs ++ x ∷ []) ≡ filter test xs ++ cond (test x) (x ∷ []) []
 filter-more test xs x = filter-append test xs (x ∷ [])
+
+-- what a fold makes of all that the entries say, with one more
+pub fold_flat-more : {A B C : Type 0} (step : C → A → C) (z : C) (f : B → List A) (all : List B) (s : B)
+    → fold step z (flat_map f (all ++ s ∷ [])) ≡ fold step (fold step z (flat_map f all)) (f s)
+fold_flat-more step z f all s =
+    ap (fold step z) (flat_map-append f all (s ∷ []) ∙ ap (λ v. flat_map f all ++ v) (append-nil (f s))) ∙ fold-append step z (flat_map f all) (f s)
+
+pub fold_picked-more : {A B C : Type 0} (step : C → A → C) (z : C) (f : B → Option A) (all : List B) (s : B)
+    → fold step z (filter_map f (all ++ s ∷ [])) ≡ fold step (fold step z (filter_map f all)) (cons_option (f s) [])
+fold_picked-more step z f all s =
+    ap (fold step z) (filter_map-append f all (s ∷ [])) ∙ fold-append step z (filter_map f all) (cons_option (f s) [])

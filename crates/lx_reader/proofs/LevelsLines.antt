@@ -1,7 +1,8 @@
 -- Lines known by their first word or by their first bytes.
-use Rattle.lx_reader.proofs.Imports.{◌≡◌, ◌≤◌, Bool, true, false, cond, List, [], ◌∷◌, ◌++◌, filter, length, Err, refl, ap, sym, ◌∙◌, ℕ, ◌&&◌, codes, take, take_all, arith}
-use Rattle.lx_reader.proofs.Imports.{LINE_BYTES, Move, Section, NoRecord, InCue, InGroup, InSub, Skipping, LineTooLong, Facts, Word, levels, entry_by_tokens}
-use Rattle.lx_reader.proofs.Imports.{entry_by_word, entry_of, FirstIsWord, Show, tokens, lt_false, Open, OpenFits, is_open, is_record}
+use Rattle.lx_reader.proofs.Imports.{◌≡◌, ◌≤◌, true, false, cond, List, [], ◌∷◌, ◌++◌, filter, length, Err, refl, ap, sym, ◌∙◌, ℕ, codes, take}
+use Rattle.lx_reader.proofs.Imports.{take_all, arith, LINE_BYTES, Move, Section, NoRecord, InCue, InGroup, InSub, Skipping, LineTooLong, Facts, Word}
+use Rattle.lx_reader.proofs.Imports.{levels, entry_by_tokens, entry_by_word, entry_of, FirstIsWord, Show, tokens, lt_false, Open, OpenFits, is_open}
+use Rattle.lx_reader.proofs.Imports.{is_record}
 use Rattle.std.proofs.Common.{◌-◌, drop, eqb, length-drop}
 use Rattle.std.proofs.lemmas.Bool.Decides.{Decides-eqb}
 use Rattle.std.proofs.lemmas.Slice.Eq.{starts_is}
@@ -11,10 +12,6 @@ use Rattle.lx_lex.proofs.LineCuts.{before_first-no}
 use Rattle.lx_spec.specs.Text.{begins_comment, is_filled, is_separator}
 use Rattle.lx_spec.specs.declared.Word.TheVariants as words
 use Rattle.lx_reader.specs.declared.open_record.Open.TheVariants as open_records
-
-pub both_true : (a b : Bool) → (a && b) ≡ true → (a ≡ true) × (b ≡ true)
-both_true true b both = (refl, both)
-both_true false b both = cc
 
 -- the open record's section is a record's
 pub inside_record : (show : Show) (section : Section) (moves : List Move) (o : Open) → OpenFits show section moves o → is_open o ≡ true

@@ -1,6 +1,5 @@
 pub mod LastEntries
 pub mod PlacedNumbers
-pub mod EntryChanges
 pub mod MadeEntries
 pub mod Cues
 pub mod Groups

@@ -1,10 +1,10 @@
 -- What one line makes of the reader.
-use Rattle.lx_reader.proofs.Imports.{◌≡◌, ℕ, ◌+◌, length, arith, Bool, true, false, cond, List, [], ◌∷◌, map, Option, Some, None, Result, Ok}
-use Rattle.lx_reader.proofs.Imports.{Err, refl, ap, ◌∙◌, sym, subst, ◌||◌, ◌==◌, not, nat_lt, IfOk, IfErr, OnOk, is_ok, is_some, list_any}
-use Rattle.lx_reader.proofs.Imports.{IsOkAnd, IsErrAnd, CUES, entry_at, has_entry, TextFault, NoIdent, OutOfRange, PatchRow, desk_limits, read_time, read_whole}
-use Rattle.lx_reader.proofs.Imports.{read_cue_no, ◌>>=◌, IsTime, Cue, Show, Section, NoRecord, InCue, Skipping, Entry, Skipped, Begins, Patches, times}
-use Rattle.lx_reader.proofs.Imports.{number, delay_at, is_page_one, record_entry, if_few, entry_by_word, Reader, ShowFault, all_triples, next_times}
-use Rattle.lx_reader.proofs.Imports.{record_number, facts_of, state_of, IsStep, Outcome, with_rows, cue_with_entry}
+use Rattle.lx_reader.proofs.Imports.{◌≡◌, ℕ, ◌+◌, length, Bool, true, false, cond, List, [], ◌∷◌, map, Option, Some, None, Result, Ok, Err, refl, ap}
+use Rattle.lx_reader.proofs.Imports.{◌∙◌, sym, subst, ◌||◌, ◌==◌, not, nat_lt, IfOk, IfErr, OnOk, is_ok, is_some, list_any, IsOkAnd, IsErrAnd, CUES}
+use Rattle.lx_reader.proofs.Imports.{entry_at, has_entry, TextFault, NoIdent, OutOfRange, PatchRow, read_time, read_whole, ◌>>=◌, IsTime, Cue, Show}
+use Rattle.lx_reader.proofs.Imports.{Section, NoRecord, InCue, Skipping, Entry, Skipped, Begins, Patches, times, number, delay_at, is_page_one}
+use Rattle.lx_reader.proofs.Imports.{record_entry, if_few, entry_by_word, Reader, ShowFault, all_triples, next_times, record_number, facts_of}
+use Rattle.lx_reader.proofs.Imports.{state_of, IsStep, Outcome, with_rows, placed_in, show_with, tokens, length-map}
 use Rattle.lx_spec.specs.declared.Bad.{Bad}
 use Rattle.lx_spec.specs.declared.Word.TheVariants as words
 use Rattle.lx_spec.proofs.ValidLines.{time_in_range}
@@ -31,15 +31,11 @@ abbrev pub said_with : (ℕ → ℕ → Entry) → Result (ℕ × ℕ) TextFault
 said_with entry (Ok t) = Ok (entry t.0 t.1)
 said_with entry (Err fault) = Err fault
 
-delay_next : (i : ℕ) (entry : ℕ → ℕ → Entry) (time : ℕ) (d : Result ℕ TextFault)
-    → (d >>= (λ delay. Ok (entry time delay))) ≡ said_with entry (d >>= (λ delay. let both : ℕ × ℕ = (time, delay) in Ok both))
-delay_next i entry time (Ok delay) = refl
-delay_next i entry time (Err fault) = refl
-
 times_from : (i : ℕ) (entry : ℕ → ℕ → Entry) (t d : Result ℕ TextFault)
     → (t >>= (λ time. d >>= (λ delay. Ok (entry time delay))))
     ≡ said_with entry (t >>= (λ time. d >>= (λ delay. let both : ℕ × ℕ = (time, delay) in Ok both)))
-times_from i entry (Ok time) d = delay_next i entry time d
+times_from i entry (Ok time) (Ok delay) = refl
+times_from i entry (Ok time) (Err fault) = refl
 times_from i entry (Err fault) d = refl
 
 pub times-next : (i : ℕ) (entry : ℕ → ℕ → Entry) (rest : List (List ℕ)) → times i entry rest ≡ said_with entry (next_times i rest)
@@ -54,15 +50,7 @@ pub times_ok : (i : ℕ) (entry : ℕ → ℕ → Entry) (rest : List (List ℕ)
     → times i entry rest ≡ Ok (entry times_read.0 times_read.1)
 times_ok i entry rest times_read is = times-next i entry rest ∙ ap (said_with entry) (sym is)
 
--- A line that is no fault once IDENT was read.
-identified_says : (b : Bool) (r : Result Entry TextFault) (fault : TextFault) → b ≡ true → cond (not b) (Err fault) r ≡ r
-identified_says b r fault is = ap (λ b. cond (not b) (Err fault) r) is
-
 -- Rows of the patch.
-rows_from : (i : ℕ) (rest : List (List ℕ)) (r : Result (List PatchRow) TextFault) → all_triples i rest ≡ r
-    → (all_triples i rest >>= (λ rows. Ok (Patches rows))) ≡ (r >>= (λ rows. Ok (Patches rows)))
-rows_from i rest r is = ap (λ v. v >>= (λ rows. Ok (Patches rows))) is
-
 patch_says : (old : Reader) (i : ℕ) (page : List ℕ) (rest : List (List ℕ)) → old.identified ≡ true → is_ok (read_whole 1 1 page) ≡ true
     → entry_by_word (facts_of old i) [] words.Patch (page ∷ rest) ≡ (all_triples i rest >>= (λ rows. Ok (Patches rows)))
 patch_says old i page rest identified one =
@@ -79,13 +67,13 @@ rows_ok : (old : Reader) (show : Show) (i : ℕ) (page : List ℕ) (rest : List 
 rows_ok old show i page rest (Err fault) going identified one list is = absurd is
 rows_ok old show i page rest (Ok rows) going identified one list is =
     took old (patched old show) i (entry_by_word (facts_of old i) [] words.Patch (page ∷ rest)) (Patches rows)
-    (patch_says old i page rest identified one ∙ rows_from i rest (Ok rows) list)
+    (patch_says old i page rest identified one ∙ ap (λ v. v >>= (λ rows. Ok (Patches rows))) list)
     (record { state = λ j. record (state_of (patched old show)) { show = is j }; ended = going })
 
 rows_stop : (stop : ShowFault) (old : Reader) (i : ℕ) (page : List ℕ) (rest : List (List ℕ)) → old.identified ≡ true
     → is_ok (read_whole 1 1 page) ≡ true → IsFaultOf stop (all_triples i rest)
     → IsFaultOf stop (entry_by_word (facts_of old i) [] words.Patch (page ∷ rest))
-rows_stop (faults.Text fault) old i page rest identified one is = patch_says old i page rest identified one ∙ rows_from i rest (Err fault) is
+rows_stop (faults.Text fault) old i page rest identified one is = patch_says old i page rest identified one ∙ ap (λ v. v >>= (λ rows. Ok (Patches rows))) is
 rows_stop faults.Memory old i page rest identified one is = tt
 rows_stop faults.ReadFault old i page rest identified one is = absurd is
 rows_stop faults.InputTooLong old i page rest identified one is = absurd is
@@ -108,15 +96,11 @@ record_said section (Ok (Some n)) = Ok (Begins (section n))
 record_said section (Ok None) = Ok (Skipped (Some Skipping))
 record_said section (Err fault) = Err fault
 
-number_said : (section : ℕ → Section) (r : Result ℕ TextFault)
-    → (r >>= (λ n. Ok (Begins (section n)))) ≡ record_said section (r >>= (λ n. Ok (Some n)))
-number_said section (Ok n) = refl
-number_said section (Err fault) = refl
-
 record_from : (section : ℕ → Section) (r : Result ℕ TextFault) (one : Bool)
     → cond one (r >>= (λ n. Ok (Begins (section n)))) (Ok (Skipped (Some Skipping)))
     ≡ record_said section (cond one (r >>= (λ n. Ok (Some n))) (Ok None))
-record_from section r true = number_said section r
+record_from section (Ok n) true = refl
+record_from section (Err fault) true = refl
 record_from section r false = refl
 
 pub record-said : (i : ℕ) (section : ℕ → Section) (read : List ℕ → Result ℕ Bad) (rest : List (List ℕ))
@@ -124,19 +108,23 @@ pub record-said : (i : ℕ) (section : ℕ → Section) (read : List ℕ → Res
 record-said i section read [] = refl
 record-said i section read (token ∷ page) = record_from section (number i (read token)) (is_page_one page)
 
-cue_says : (old : Reader) (i : ℕ) (rest : List (List ℕ)) (r : Result (Option ℕ) TextFault) → old.identified ≡ true
-    → r ≡ record_number i (read_cue_no desk_limits) rest
-    → entry_by_word (facts_of old i) [] words.Cue rest ≡ (record_said InCue r >>= if_few (facts_of old i))
-cue_says old i rest r identified is =
-    identified_says old.identified (record_entry i InCue (read_cue_no desk_limits) rest >>= if_few (facts_of old i)) (NoIdent i) identified
-    ∙ ap (λ v. v >>= if_few (facts_of old i)) (record-said i InCue (read_cue_no desk_limits) rest ∙ ap (record_said InCue) (sym is))
+-- once IDENT was read; more is asked of a cue
+pub record_says : (more : Result Entry TextFault → Result Entry TextFault) (old : Reader) (i : ℕ) (section : ℕ → Section)
+    (read : List ℕ → Result ℕ Bad) (rest : List (List ℕ)) (r : Result (Option ℕ) TextFault) → old.identified ≡ true
+    → r ≡ record_number i read rest
+    → cond (not old.identified) (Err (NoIdent i)) (more (record_entry i section read rest)) ≡ more (record_said section r)
+record_says more old i section read rest r identified is =
+    ap (λ b. cond (not b) (Err (NoIdent i)) (more (record_entry i section read rest))) identified
+    ∙ ap more (record-said i section read rest ∙ ap (record_said section) (sym is))
 
-pub cue_fault : (old : Reader) (i : ℕ) (rest : List (List ℕ)) (fault : TextFault) → old.identified ≡ true
-    → Err fault ≡ record_number i (read_cue_no desk_limits) rest → entry_by_word (facts_of old i) [] words.Cue rest ≡ Err fault
-cue_fault old i rest fault identified is = cue_says old i rest (Err fault) identified is
+abbrev pub if_room : Reader → ℕ → Result Entry TextFault → Result Entry TextFault
+if_room old i said = said >>= if_few (facts_of old i)
 
-pub cue_other_page : (old new : Reader) (i : ℕ) (rest : List (List ℕ)) (o : Option ℕ)
-    → Ok o ≡ record_number i (read_cue_no desk_limits) rest → o ≡ None → old.identified ≡ true → old.ended ≡ false
+pub read_as : {o v : Option ℕ} {r : Result (Option ℕ) TextFault} → Ok o ≡ r → o ≡ v → Ok v ≡ r
+read_as {r = r} numbered is = subst (λ (o : Option ℕ). Ok o ≡ r) is numbered
+
+-- another page
+pub other_page : (old new : Reader) (i : ℕ) (said : Result Entry TextFault) → said ≡ Ok (Skipped (Some Skipping)) → old.ended ≡ false
     → new ≡ record old {
       section = Skipping;
       part = 1;
@@ -144,11 +132,19 @@ pub cue_other_page : (old new : Reader) (i : ℕ) (rest : List (List ℕ)) (o : 
       first_skipped =
           cond (old.skipped == 0) i old.first_skipped;
     }
-    → IsOkAnd (entry_by_word (facts_of old i) [] words.Cue rest) (IsStep old new i)
-cue_other_page old new i rest o numbered none identified going is =
-    took old new i (entry_by_word (facts_of old i) [] words.Cue rest) (Skipped (Some Skipping))
-    (cue_says old i rest (Ok o) identified numbered ∙ ap (λ v. record_said InCue (Ok v) >>= if_few (facts_of old i)) none)
-    (record { state = ap state_of is; ended = ap (λ r. r.ended) is ∙ going })
+    → IsOkAnd said (IsStep old new i)
+other_page old new i said is going skips =
+    took old new i said (Skipped (Some Skipping)) is (record { state = ap state_of skips; ended = ap (λ r. r.ended) skips ∙ going })
+
+-- the record begins
+pub begins : (old new : Reader) (show : Show) (i : ℕ) (section : Section) (said : Result Entry TextFault) → said ≡ Ok (Begins section)
+    → old.ended ≡ false → show ≡ show_with (placed_in (state_of old) (Begins section)) old.show
+    → new ≡ record old { show = show; section = section; part = 1 } → IsOkAnd said (IsStep old new i)
+begins old new show i section said is going shows enters =
+    took old new i said (Begins section) is (record {
+      state = ap state_of enters ∙ (λ j. record (state_of old) { show = shows j; section = section; part = 1 });
+      ended = ap (λ r. r.ended) enters ∙ going;
+    })
 
 -- the numbers of the cues
 any_numbers : (n : ℕ) (cues : List Cue) → list_any (λ m. m == n) (map (λ cue. cue.number) cues) ≡ has_entry (λ cue. cue.number) n cues
@@ -157,36 +153,10 @@ any_numbers n (cue ∷ cues) = elim (cue.number == n) as
     (λ b. (b || list_any (λ m. m == n) (map (λ z. z.number) cues)) ≡ is_some (cond b (Some cue) (entry_at (λ z. z.number) n cues)))
     [ true ↦ refl | false ↦ any_numbers n cues ]
 
-length_numbers : (cues : List Cue) → length (map (λ cue. cue.number) cues) ≡ length cues
-length_numbers [] = refl
-length_numbers (cue ∷ cues) = omega (arith, length_numbers cues)
-
-cue_said : (old : Reader) (i n : ℕ) (rest : List (List ℕ)) (o : Option ℕ) (room : Bool)
-    → Ok o ≡ record_number i (read_cue_no desk_limits) rest → o ≡ Some n → old.identified ≡ true
+pub room_says : (old : Reader) (i n : ℕ) (room : Bool)
     → room ≡ (has_entry (λ cue. cue.number) n old.show.cues || nat_lt (length old.show.cues) CUES)
-    → entry_by_word (facts_of old i) [] words.Cue rest ≡ cond room (Ok (Begins (InCue n))) (Err (OutOfRange i))
-cue_said old i n rest o room numbered some identified is =
-    cue_says old i rest (Ok o) identified numbered
-    ∙ ap (λ v. record_said InCue (Ok v) >>= if_few (facts_of old i)) some
-    ∙ (λ j. cond (any_numbers n old.show.cues j || nat_lt (length_numbers old.show.cues j) CUES) (Ok (Begins (InCue n)))
+    → if_room old i (Ok (Begins (InCue n))) ≡ cond room (Ok (Begins (InCue n))) (Err (OutOfRange i))
+room_says old i n room is =
+    (λ j. cond (any_numbers n old.show.cues j || nat_lt (length-map old.show.cues (λ cue. cue.number) j) CUES) (Ok (Begins (InCue n)))
     (Err (OutOfRange i)))
     ∙ sym (ap (λ b. cond b (Ok (Begins (InCue n))) (Err (OutOfRange i))) is)
-
-pub cue_full : (old : Reader) (i n : ℕ) (rest : List (List ℕ)) (o : Option ℕ) → Ok o ≡ record_number i (read_cue_no desk_limits) rest
-    → o ≡ Some n → old.identified ≡ true → false ≡ (has_entry (λ cue. cue.number) n old.show.cues || nat_lt (length old.show.cues) CUES)
-    → entry_by_word (facts_of old i) [] words.Cue rest ≡ Err (OutOfRange i)
-cue_full old i n rest o numbered some identified full = cue_said old i n rest o false numbered some identified full
-
-pub cue_took : (old new : Reader) (show : Show) (i n : ℕ) (rest : List (List ℕ)) (o : Option ℕ)
-    → Ok o ≡ record_number i (read_cue_no desk_limits) rest → o ≡ Some n → old.identified ≡ true → old.ended ≡ false
-    → true ≡ (has_entry (λ cue. cue.number) n old.show.cues || nat_lt (length old.show.cues) CUES)
-    → show ≡ record old.show { cues = cue_with_entry n old.show.cues } → new ≡ record old { show = show; section = InCue n; part = 1 }
-    → IsOkAnd (entry_by_word (facts_of old i) [] words.Cue rest) (IsStep old new i)
-cue_took old new show i n rest o numbered some identified going room shows is =
-    took old new i (entry_by_word (facts_of old i) [] words.Cue rest) (Begins (InCue n))
-    (cue_said old i n rest o true numbered some identified room)
-    (record {
-      state = ap state_of is ∙ (λ j. record (state_of (record old { show = show; section = InCue n; part = 1 }))
-          { show = shows j });
-      ended = ap (λ r. r.ended) is ∙ going;
-    })

@@ -1,12 +1,12 @@
 -- The moves of a look, channel by channel, and the cues whose looks become moves, from the last one on.
-use Rattle.lx_reader.proofs.Imports.{◌≡◌, ℕ, suc, zero, ◌+◌, ◌<◌, ◌≤◌, Bool, true, false, cond, List, [], ◌∷◌, ◌++◌, map}
-use Rattle.lx_reader.proofs.Imports.{length, take, drop, get_or, Option, Some, None, refl, ap, ◌∙◌, sym, subst, arith, add-one, append-nil, append_assoc}
-use Rattle.lx_reader.proofs.Imports.{IsTrue, filter, is_some, not, ◌==◌, ◌-◌, IfSome, option_map_or, IsSomeAnd, AllByRecursion, range_with_len}
-use Rattle.lx_reader.proofs.Imports.{take-append_seam, map-append, filter-append, Move, Part, from_looks, IsStrictlySorted, placed, has_entry, entry_at}
-use Rattle.lx_reader.proofs.Imports.{entries_below, entries_above, Cue, Show, InRange, ValidMove, ValidCue, Valid, cue_of, move_in, level_in, changed, kept_by}
-use Rattle.lx_reader.proofs.Imports.{find_has, seam, goes_between, stands_between, all_at_seam, below_seam, above_seam, All-placed, IsStrictlySorted-placed}
-use Rattle.lx_reader.proofs.Imports.{entry_number, found_valid, length-placed_there, with_other_moves, with_cues, last_look, look_changes, look_move}
-use Rattle.lx_reader.proofs.Imports.{moves_up_to, with_look}
+use Rattle.lx_reader.proofs.Imports.{◌≡◌, ℕ, suc, zero, ◌+◌, ◌<◌, ◌≤◌, Bool, true, false, cond, List, [], ◌∷◌, ◌++◌, map, length, take, drop, get_or}
+use Rattle.lx_reader.proofs.Imports.{Option, Some, None, refl, ap, ◌∙◌, sym, subst, arith, add-one, append-nil, append_assoc, IsTrue, filter, is_some}
+use Rattle.lx_reader.proofs.Imports.{not, ◌==◌, ◌-◌, IfSome, option_map_or, IsSomeAnd, AllByRecursion, range_with_len, take-append_seam, map-append}
+use Rattle.lx_reader.proofs.Imports.{filter-append, Move, Part, from_looks, IsStrictlySorted, placed, has_entry, entry_at, entries_below}
+use Rattle.lx_reader.proofs.Imports.{entries_above, Cue, Show, InRange, ValidMove, ValidCue, Valid, cue_of, move_in, level_in, changed, kept_by}
+use Rattle.lx_reader.proofs.Imports.{find_has, seam, goes_between, stands_between, all_at_seam, below_seam, above_seam, All-placed}
+use Rattle.lx_reader.proofs.Imports.{IsStrictlySorted-placed, entry_number, found_valid, length-placed_there, with_other_moves, with_cues, last_look}
+use Rattle.lx_reader.proofs.Imports.{look_changes, look_move, moves_up_to, with_look, cond_both}
 
 all_map : {A B : Type 0} (P : A → Type 0) (Q : B → Type 0) (f : A → B) (xs : List A) → ((x : A) → P x → Q (f x)) → AllByRecursion P xs
     → AllByRecursion Q (map f xs)
@@ -79,15 +79,13 @@ moves_valid before cue channels valid =
     (range_in 1 channels channels (omega arith) (omega arith)))
 
 -- and sorted
-sorted_step : (x : Move) (ms : List Move) (b : Bool) → IsStrictlySorted (λ m. m.chan) ms
-    → IsStrictlySorted (λ m. m.chan) (cond b (placed (λ m. m.chan) x ms) ms)
-sorted_step x ms true sorted = IsStrictlySorted-placed (λ m. m.chan) x ms sorted
-sorted_step x ms false sorted = sorted
-
 moves_sorted : (before : ℕ → ℕ) (cue : Cue) (n : ℕ) → IsStrictlySorted (λ m. m.chan) (moves_up_to before cue n)
 moves_sorted before cue zero = tt
 moves_sorted before cue (suc n) = subst (IsStrictlySorted (λ m. m.chan)) (moves_suc before cue n)
-    (sorted_step (look_move cue (suc n)) (moves_up_to before cue n) (look_changes before cue (suc n)) (moves_sorted before cue n))
+    (cond_both (look_changes before cue (suc n)) (placed (λ m. m.chan) (look_move cue (suc n)) (moves_up_to before cue n))
+    (moves_up_to before cue n) (IsStrictlySorted (λ m. m.chan))
+    (λ is. IsStrictlySorted-placed (λ m. m.chan) (look_move cue (suc n)) (moves_up_to before cue n) (moves_sorted before cue n))
+    (λ is. moves_sorted before cue n))
 
 -- so the show is valid where its cue has them
 valid_with : (show : Show) (n : ℕ) (moves : List Move) (o : Option Cue) → Valid show → cue_of show n ≡ o
@@ -136,28 +134,6 @@ changed_there front cue back moves sorted =
     let cut = cut_there front cue back sorted in
     ap (λ o. option_map_or (λ z. placed (λ x. x.number) (record z { moves = moves }) (front ++ cue ∷ back)) o (front ++ cue ∷ back)) cut.1
     ∙ (λ i. cut.0 i ++ record cue { moves = moves } ∷ cut.2 i)
-
--- what may be put into a cue where it stands
-pub moves_fit : (show : Show) (front : List Cue) (cue : Cue) (back : List Cue) (moves : List Move) → show.cues ≡ front ++ cue ∷ back
-    → Valid show → moves ≡ moves_up_to (last_look front) cue show.channels
-    → IsSomeAnd (cue_of show cue.number) (λ z. AllByRecursion (ValidMove show.channels z.parts) moves)
-moves_fit show front cue back moves is valid made =
-    let found : cue_of show cue.number ≡ Some cue = ap (entry_at (λ x. x.number) cue.number) is
-    ∙ (cut_there front cue back (subst (IsStrictlySorted (λ x. x.number)) is valid.cues_sorted)).1 in
-    let fits : ValidCue show.channels cue = all_at_seam (ValidCue show.channels) front back cue
-    (subst (AllByRecursion (ValidCue show.channels)) is valid.cues) in
-    subst (λ o. IsSomeAnd o (λ z. AllByRecursion (ValidMove show.channels z.parts) moves)) (sym found)
-    (subst (AllByRecursion (ValidMove show.channels cue.parts)) (sym made) (moves_valid (last_look front) cue show.channels fits))
-
-pub cue_changed : (show new : Show) (front : List Cue) (cue : Cue) (back : List Cue) (moves : List Move) → show.cues ≡ front ++ cue ∷ back
-    → Valid show → moves ≡ moves_up_to (last_look front) cue show.channels
-    → new ≡ record show { cues = changed (λ x. x.number) cue.number (λ z. record z { moves = moves }) show.cues }
-    → new ≡ record show { cues = front ++ with_look show front cue ∷ back }
-cue_changed show new front cue back moves is valid made changes =
-    let cues = ap (changed (λ x. x.number) cue.number (λ z. record z { moves = moves })) is
-    ∙ changed_there front cue back moves (subst (IsStrictlySorted (λ x. x.number)) is valid.cues_sorted)
-    ∙ ap (λ ms. front ++ record cue { moves = ms } ∷ back) made in
-    changes ∙ (λ j. record show { cues = cues j })
 
 -- The cues from a place on have moves, and those before it are looks.
 abbrev pub from_place : ℕ → Show → List Cue
@@ -212,11 +188,6 @@ looked_next old mid new at looked change =
           ∙ (λ j. record old { cues = sym made j });
     }
 
-first_place : (show : Show) (cues : List Cue)
-    → take 0 cues ++ from_looks show (last_look (take 0 cues)) (drop 0 cues) ≡ from_looks show (λ c. 0) cues
-first_place show [] = refl
-first_place show (cue ∷ cues) = refl
-
 -- the moves with those of the channel that comes next
 pub put_next : (before : ℕ → ℕ) (cue : Cue) (n chan level : ℕ) (old new : List Move) → chan ≡ n + 1 → level ≡ before chan
     → old ≡ moves_up_to before cue n
@@ -233,40 +204,38 @@ get_seam : (front : List Cue) (cue : Cue) (back : List Cue) (d : Cue) → get_or
 get_seam [] cue back d = refl
 get_seam (x ∷ front) cue back d = get_seam front cue back d
 
--- the cue at a place, and the moves that it gets
-pub fit_at : (show : Show) (xs given : List Cue) (at channels n : ℕ) (cue : Cue) (moves : List Move) → xs ≡ show.cues
-    → at < length show.cues → cue ≡ get_or xs at cue → given ≡ take at xs → channels ≡ show.channels → n ≡ cue.number → Valid show
-    → moves ≡ moves_up_to (last_look given) cue channels
-    → IsSomeAnd (cue_of show n) (λ z. AllByRecursion (ValidMove show.channels z.parts) moves)
-fit_at show xs given at channels n cue moves are within here front count number valid made =
-    let here' : cue ≡ get_or show.cues at cue = here ∙ ap (λ v. get_or v at cue) are in
-    let front' : given ≡ take at show.cues = front ∙ ap (take at) are in
-    subst (λ k. IsSomeAnd (cue_of show k) (λ z. AllByRecursion (ValidMove show.channels z.parts) moves)) (sym number)
-    (moves_fit show (take at show.cues) cue (drop (at + 1) show.cues) moves (seam show.cues at cue within here') valid
-    (made ∙ (λ j. moves_up_to (last_look (front' j)) cue (count j))))
+-- The cue at a place, and the moves that it gets.
+module _ (show : Show) (xs : List Cue) (at channels n : ℕ) (item : Cue) (moves : List Move) (are : xs ≡ show.cues)
+    (here : item ≡ get_or xs at item) (count : channels ≡ show.channels) (number : n ≡ item.number) (valid : Valid show)
+    (made : moves ≡ moves_up_to (last_look (take at xs)) item channels) where
+  -- it may have them
+  pub fit_at : at < length show.cues → IsSomeAnd (cue_of show n) (λ z. AllByRecursion (ValidMove show.channels z.parts) moves)
+  fit_at within =
+      let front : List Cue = take at show.cues in
+      let back : List Cue = drop (at + 1) show.cues in
+      let is : show.cues ≡ front ++ item ∷ back = seam show.cues at item within (here ∙ ap (λ v. get_or v at item) are) in
+      let found : cue_of show n ≡ Some item = ap (cue_of show) number ∙ ap (entry_at (λ x. x.number) item.number) is
+      ∙ (cut_there front item back (subst (IsStrictlySorted (λ x. x.number)) is valid.cues_sorted)).1 in
+      let fits : ValidCue show.channels item = all_at_seam (ValidCue show.channels) front back item
+      (subst (AllByRecursion (ValidCue show.channels)) is valid.cues) in
+      subst (λ o. IsSomeAnd o (λ z. AllByRecursion (ValidMove show.channels z.parts) moves)) (sym found)
+      (subst (AllByRecursion (ValidMove show.channels item.parts)) (sym (made ∙ ap (moves_up_to (last_look (take at xs)) item) count))
+      (moves_valid (last_look (take at xs)) item show.channels fits))
 
-pub changed_at : (show new : Show) (xs given : List Cue) (at channels n : ℕ) (item : Cue) (moves : List Move) → xs ≡ show.cues
-    → item ≡ get_or xs at item → given ≡ take at xs → channels ≡ show.channels → n ≡ item.number → Valid show
-    → moves ≡ moves_up_to (last_look given) item channels
-    → new ≡ record show { cues = changed (λ x. x.number) n (λ z. record z { moves = moves }) show.cues }
-    → (front : List Cue) (cue : Cue) (back : List Cue) → length front ≡ at → show.cues ≡ front ++ cue ∷ back
-    → new ≡ record show { cues = front ++ with_look show front cue ∷ back }
-changed_at show new xs given at channels n item moves are here before count number valid made changes front cue back place is =
-    let whole : xs ≡ front ++ cue ∷ back = are ∙ is in
-    let same : item ≡ cue = here ∙ (λ j. get_or (whole j) (sym place j) item) ∙ get_seam front cue back item in
-    let given_is : given ≡ front = before ∙ (λ j. take (sym place j) (whole j)) ∙ take-append_seam front (cue ∷ back) in
-    let made' : moves ≡ moves_up_to (last_look front) cue show.channels = made
-    ∙ (λ j. moves_up_to (last_look (given_is j)) (same j) (count j)) in
-    let number' : n ≡ cue.number = number ∙ ap (λ z. z.number) same in
-    cue_changed show new front cue back moves is valid made'
-    (changes ∙ (λ j. record show { cues = changed (λ x. x.number) (number' j) (λ z. record z { moves = moves }) show.cues }))
+  pub changed_at : (new : Show) → new ≡ record show { cues = changed (λ x. x.number) n (λ z. record z { moves = moves }) show.cues }
+      → (front : List Cue) (cue : Cue) (back : List Cue) → length front ≡ at → show.cues ≡ front ++ cue ∷ back
+      → new ≡ record show { cues = front ++ with_look show front cue ∷ back }
+  changed_at new changes front cue back place is =
+      let whole : xs ≡ front ++ cue ∷ back = are ∙ is in
+      let same : item ≡ cue = here ∙ (λ j. get_or (whole j) (sym place j) item) ∙ get_seam front cue back item in
+      let given : take at xs ≡ front = (λ j. take (sym place j) (whole j)) ∙ take-append_seam front (cue ∷ back) in
+      let cues = (λ j. changed (λ x. x.number) ((number ∙ ap (λ z. z.number) same) j) (λ z. record z { moves = moves }) (is j))
+      ∙ changed_there front cue back moves (subst (IsStrictlySorted (λ x. x.number)) is valid.cues_sorted)
+      ∙ ap (λ ms. front ++ record cue { moves = ms } ∷ back) (made ∙ (λ j. moves_up_to (last_look (given j)) (same j) (count j))) in
+      changes ∙ (λ j. record show { cues = cues j })
 
-pub valid_at : (show new : Show) (xs given : List Cue) (at channels n : ℕ) (cue : Cue) (moves : List Move) → xs ≡ show.cues
-    → at < length show.cues → cue ≡ get_or xs at cue → given ≡ take at xs → channels ≡ show.channels → n ≡ cue.number → Valid show
-    → moves ≡ moves_up_to (last_look given) cue channels
-    → new ≡ record show { cues = changed (λ x. x.number) n (λ z. record z { moves = moves }) show.cues } → Valid new
-valid_at show new xs given at channels n cue moves are within here front count number valid made changes =
-    subst Valid (sym changes)
-    (valid_with show n moves (cue_of show n) valid refl
-    (fit_at show xs given at channels n cue moves are within here front count number valid made)
-    (subst (IsStrictlySorted (λ m. m.chan)) (sym made) (moves_sorted (last_look given) cue channels)))
+  pub valid_at : (new : Show) → new ≡ record show { cues = changed (λ x. x.number) n (λ z. record z { moves = moves }) show.cues }
+      → at < length show.cues → Valid new
+  valid_at new changes within =
+      subst Valid (sym changes) (valid_with show n moves (cue_of show n) valid refl (fit_at within)
+      (subst (IsStrictlySorted (λ m. m.chan)) (sym made) (moves_sorted (last_look (take at xs)) item channels)))

@@ -1,6 +1,6 @@
 -- Lists of entries made of rising numbers, with what one more entry of a text says.
-use Rattle.lx_reader.proofs.Imports.{◌≡◌, ℕ, Bool, true, false, cond, List, [], map, Option, Some, None, refl, ap, ◌∙◌, sym, fold, ◌==◌}
-use Rattle.lx_reader.proofs.Imports.{IfSome, cons_option, option_map_or, IsStrictlySorted, placed, has_entry, with_named, changed_in}
+use Rattle.lx_reader.proofs.Imports.{◌≡◌, ℕ, Bool, true, false, cond, List, [], map, Option, Some, None, refl, ap, ◌∙◌, sym, fold, ◌==◌, IfSome}
+use Rattle.lx_reader.proofs.Imports.{cons_option, option_map_or, IsStrictlySorted, placed, has_entry, with_named, changed_in, cond_both}
 use Rattle.lx_reader.proofs.PlacedNumbers.{changed-made, map-placed, placed-there, has_made, eq-sym, eq-here}
 
 pub cond_same : {A : Type 0} (b : Bool) (x : A) → cond b x x ≡ x
@@ -25,8 +25,8 @@ changed_at key None at keeps f keys ns rises there = λ i. map (λ n. cond_same 
 changed_at key (Some change) None keeps f keys ns rises there = refl
 changed_at {A} key (Some change) (Some m) keeps f keys ns rises there =
     let g : ℕ → A = λ n. cond (m == n) (change (f n)) (f n) in
-    let kg : (n : ℕ) → key (g n) ≡ n = λ n. elim (m == n) as (λ b. key (cond b (change (f n)) (f n)) ≡ n)
-    [ true ↦ keeps (f n) ∙ keys n | false ↦ keys n ] in
+    let kg : (n : ℕ) → key (g n) ≡ n =
+    λ n. cond_both (m == n) (change (f n)) (f n) (λ x. key x ≡ n) (λ is. keeps (f n) ∙ keys n) (λ is. keys n) in
     let same : (n : ℕ) → (n == m) ≡ false → g n ≡ f n = λ n differs. ap (λ b. cond b (change (f n)) (f n)) (eq-sym n m differs) in
     let here : g m ≡ change (f m) = ap (λ b. cond b (change (f m)) (f m)) (eq-here m) in
     changed-made key f g keys kg m same change here ns rises (there m (eq-here m))

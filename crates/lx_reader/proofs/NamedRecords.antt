@@ -1,8 +1,9 @@
 -- What the section is of was begun, and is there: before a line, and after it.
-use Rattle.lx_reader.proofs.Imports.{◌≡◌, ℕ, true, cond, List, [], ◌∷◌, ◌++◌, Option, Some, None, refl, ap, ◌∙◌, sym, subst, IsTrue}
-use Rattle.lx_reader.proofs.Imports.{filter, filter_map, fold, map, is_some, unwrap_or, option_and_then, cons_option, IsSomeAnd, eqb-true, placed, has_entry}
-use Rattle.lx_reader.proofs.Imports.{cue_of, with_cue_named, Section, NoRecord, InCue, InGroup, InSub, Skipping, PlacedEntry, section_begun, part_named, cue_in}
-use Rattle.lx_reader.proofs.Imports.{group_in, sub_in, numbers_begun, stands_in, cue_from, group_from, sub_from, HasPartIn, IsOpen, number_begun}
+use Rattle.lx_reader.proofs.Imports.{◌≡◌, ℕ, true, cond, List, [], ◌∷◌, ◌++◌, Option, Some, None, refl, ap, ◌∙◌, sym, subst, IsTrue, filter}
+use Rattle.lx_reader.proofs.Imports.{filter_map, fold, map, is_some, unwrap_or, option_and_then, cons_option, IsSomeAnd, eqb-true, placed, has_entry}
+use Rattle.lx_reader.proofs.Imports.{cue_of, with_cue_named, Section, NoRecord, InCue, InGroup, InSub, Skipping, PlacedEntry, section_begun}
+use Rattle.lx_reader.proofs.Imports.{part_named, cue_in, group_in, sub_in, numbers_begun, stands_in, cue_from, group_from, sub_from, HasPartIn}
+use Rattle.lx_reader.proofs.Imports.{IsOpen, number_begun}
 use Rattle.lx_reader.proofs.LastEntries.{filter-more}
 use Rattle.lx_reader.proofs.PlacedNumbers.{entry_made, has_made, has-here, has-all_placed, eq-here}
 use Rattle.lx_reader.proofs.MadeEntries.{is_at}
@@ -90,14 +91,14 @@ pub begun_none : (all : List PlacedEntry) (p : ℕ) → IsBegun all NoRecord p
 begun_none all p = record { cue = λ n is. cc; group = λ n is. cc; sub = λ n is. cc; part = λ n is. cc }
 
 -- the cues that are known
-pub cues_next : (all : List PlacedEntry) (s : PlacedEntry) (o : Option ℕ) (cues : List ℕ) → number_begun cue_in s.entry ≡ o
-    → cues ≡ numbers_begun cue_in all → with_cue_named o cues ≡ numbers_begun cue_in (all ++ s ∷ [])
-cues_next all s None cues begins are = are
-    ∙ ap (λ o. fold (λ ys x. placed (λ k. k) x ys) (numbers_begun cue_in all) (cons_option o [])) (sym begins)
-    ∙ sym (begun-more cue_in all s)
-cues_next all s (Some n) cues begins are = ap (placed (λ m. m) n) are
-    ∙ ap (λ o. fold (λ ys x. placed (λ k. k) x ys) (numbers_begun cue_in all) (cons_option o [])) (sym begins)
-    ∙ sym (begun-more cue_in all s)
+with_named_is : (o : Option ℕ) (cues : List ℕ) → with_cue_named o cues ≡ fold (λ ys x. placed (λ k. k) x ys) cues (cons_option o [])
+with_named_is None cues = refl
+with_named_is (Some n) cues = refl
+
+pub cues_next : (all : List PlacedEntry) (s : PlacedEntry) (cues : List ℕ) → cues ≡ numbers_begun cue_in all
+    → with_cue_named (number_begun cue_in s.entry) cues ≡ numbers_begun cue_in (all ++ s ∷ [])
+cues_next all s cues are = with_named_is (number_begun cue_in s.entry) cues
+    ∙ ap (λ ns. fold (λ ys x. placed (λ k. k) x ys) ns (cons_option (number_begun cue_in s.entry) [])) are ∙ sym (begun-more cue_in all s)
 
 numbers_made : (all : List PlacedEntry) (ns : List ℕ) → map (λ cue. cue.number) (map (made cue_in cue_from all) ns) ≡ ns
 numbers_made all [] = refl

@@ -1,13 +1,13 @@
 -- Levels of a line that go to the open record.
-use Rattle.lx_reader.proofs.Imports.{◌≡◌, ℕ, ◌≤◌, true, false, List, [], ◌++◌, map, Ok, refl, ap, ◌∙◌, sym, subst, append-nil, arith}
-use Rattle.lx_reader.proofs.Imports.{IsTrue, fold, max, AllByRecursion, IsOkAnd, GROUPS, SUBS, Member, Move, InCue, InGroup, InSub, HasLevels, levels}
-use Rattle.lx_reader.proofs.Imports.{◌>>=◌, desk_limits, Cue, MemberSet, Show, ValidMember, ValidMove, IsStrictlySorted, all_placed, has_entry, placed}
-use Rattle.lx_reader.proofs.Imports.{each, All-all_placed, IsStrictlySorted-all_placed, wider, wider_cue, wider_members, wider_move, Open, Reader, IsStep}
-use Rattle.lx_reader.proofs.Imports.{Outcome, state_of, ReadsLevels, members_of, IsOpen, cue_with, moves_of, set_with, show_with, CueFits, OpenFits, SetFits}
-use Rattle.lx_reader.proofs.Imports.{filled_cue, filled_set, is_open, with_open}
+use Rattle.lx_reader.proofs.Imports.{◌≡◌, ℕ, ◌≤◌, true, false, List, [], ◌++◌, map, Ok, refl, ap, ◌∙◌, sym, subst, append-nil, arith, IsTrue, fold}
+use Rattle.lx_reader.proofs.Imports.{max, AllByRecursion, IsOkAnd, GROUPS, SUBS, Member, Move, InCue, InGroup, InSub, HasLevels, levels, ◌>>=◌}
+use Rattle.lx_reader.proofs.Imports.{desk_limits, Cue, MemberSet, Show, ValidMember, ValidMove, IsStrictlySorted, all_placed, has_entry, each}
+use Rattle.lx_reader.proofs.Imports.{All-all_placed, IsStrictlySorted-all_placed, wider, wider_cue, wider_members, wider_move, Open, Reader, IsStep}
+use Rattle.lx_reader.proofs.Imports.{Outcome, ReadsLevels, members_of, IsOpen, cue_with, moves_of, set_with, CueFits, OpenFits, SetFits, filled_cue}
+use Rattle.lx_reader.proofs.Imports.{filled_set, is_open, with_open}
 use Rattle.lx_reader.specs.declared.open_record.Open.TheVariants as open_records
 use Rattle.lx_reader.proofs.Members.{greatest_each, greatest_least, moves_valid}
-use Rattle.lx_reader.proofs.OpenSteps.{changed_here, open_part, opened}
+use Rattle.lx_reader.proofs.OpenSteps.{open_part, opened, step_by}
 use Rattle.lx_reader.proofs.PlacedOver.{all_placed_over, members_all_placed, members_of_moves, members_rise}
 
 abbrev pub widened : ℕ → Show → Show
@@ -42,23 +42,6 @@ module _ (r : Reader) (moves new : List Move) (i k : ℕ) (rest : List (List ℕ
         ∙ all_placed_over (λ m. m.chan) (moves_of r.part read.members) moves cue.moves fits.rise fits.valid.moves_sorted) j;
   }
 
-  cue_levels : (cue : Cue) → r.section ≡ InCue cue.number → r.ended ≡ false → CueFits r.show moves cue
-      → IsStep (opened r (open_records.Cue cue) moves) (opened wide (open_records.Cue cue) new) i (HasLevels read.members)
-  cue_levels cue inside going fits = record {
-    state = (λ j. record (state_of r) {
-      show = record r.show {
-        channels = greatest_is r.show.channels k read.members read.is_greatest j;
-        cues = (ap (λ c. placed (λ z. z.number) c r.show.cues) (cue_filled cue fits)
-            ∙ sym (changed_here (λ z. z.number) (cue_with r.part (HasLevels read.members)) (filled_cue moves cue) r.show.cues refl)) j;
-      };
-    })
-        ∙ (λ j. record (state_of r) {
-          show = show_with (record { section = sym inside j; part = r.part; entry = HasLevels read.members })
-              (with_open (open_records.Cue cue) moves r.show);
-        });
-    ended = going;
-  }
-
   -- a group or submaster
   set_filled : (limit : ℕ) (set : MemberSet) → SetFits limit r.show moves set
       → filled_set new set ≡ set_with (HasLevels read.members) (filled_set moves set)
@@ -68,46 +51,21 @@ module _ (r : Reader) (moves new : List Move) (i k : ℕ) (rest : List (List ℕ
         ∙ all_placed_over (λ m. m.chan) read.members (members_of moves) set.members (members_rise moves fits.rise) fits.valid.members.sorted) j;
   }
 
-  group_levels : (set : MemberSet) → r.section ≡ InGroup set.number → r.ended ≡ false → SetFits GROUPS r.show moves set
-      → IsStep (opened r (open_records.Group set) moves) (opened wide (open_records.Group set) new) i (HasLevels read.members)
-  group_levels set inside going fits = record {
-    state = (λ j. record (state_of r) {
-      show = record r.show {
-        channels = greatest_is r.show.channels k read.members read.is_greatest j;
-        groups = (ap (λ s. placed (λ z. z.number) s r.show.groups) (set_filled GROUPS set fits)
-            ∙ sym (changed_here (λ z. z.number) (set_with (HasLevels read.members)) (filled_set moves set) r.show.groups refl)) j;
-      };
-    })
-        ∙ (λ j. record (state_of r) {
-          show = show_with (record { section = sym inside j; part = r.part; entry = HasLevels read.members })
-              (with_open (open_records.Group set) moves r.show);
-        });
-    ended = going;
-  }
-
-  sub_levels : (set : MemberSet) → r.section ≡ InSub set.number → r.ended ≡ false → SetFits SUBS r.show moves set
-      → IsStep (opened r (open_records.Sub set) moves) (opened wide (open_records.Sub set) new) i (HasLevels read.members)
-  sub_levels set inside going fits = record {
-    state = (λ j. record (state_of r) {
-      show = record r.show {
-        channels = greatest_is r.show.channels k read.members read.is_greatest j;
-        subs = (ap (λ s. placed (λ z. z.number) s r.show.subs) (set_filled SUBS set fits)
-            ∙ sym (changed_here (λ z. z.number) (set_with (HasLevels read.members)) (filled_set moves set) r.show.subs refl)) j;
-      };
-    })
-        ∙ (λ j. record (state_of r) {
-          show = show_with (record { section = sym inside j; part = r.part; entry = HasLevels read.members })
-              (with_open (open_records.Sub set) moves r.show);
-        });
-    ended = going;
-  }
-
   levels_step : (o : Open) → is_open o ≡ true → r.ended ≡ false → OpenFits r.show r.section moves o
       → IsStep (opened r o moves) (opened wide o new) i (HasLevels read.members)
   levels_step open_records.None is going fits = cc
-  levels_step (open_records.Cue cue) is going fits = cue_levels cue fits.0 going fits.1
-  levels_step (open_records.Group set) is going fits = group_levels set fits.0 going fits.1
-  levels_step (open_records.Sub set) is going fits = sub_levels set fits.0 going fits.1
+  levels_step (open_records.Cue cue) is going fits =
+      step_by (λ c. c.number) (λ k cs. record r.show { channels = k; cues = cs }) (cue_with r.part (HasLevels read.members)) r (InCue cue.number)
+      (filled_cue moves cue) (filled_cue new cue) r.show.cues k _ r.part r.part i (HasLevels read.members) refl fits.0 refl
+      (greatest_is r.show.channels k read.members read.is_greatest) (cue_filled cue fits.1) refl going
+  levels_step (open_records.Group set) is going fits =
+      step_by (λ s. s.number) (λ k ss. record r.show { channels = k; groups = ss }) (set_with (HasLevels read.members)) r (InGroup set.number)
+      (filled_set moves set) (filled_set new set) r.show.groups k _ r.part r.part i (HasLevels read.members) refl fits.0 refl
+      (greatest_is r.show.channels k read.members read.is_greatest) (set_filled GROUPS set fits.1) refl going
+  levels_step (open_records.Sub set) is going fits =
+      step_by (λ s. s.number) (λ k ss. record r.show { channels = k; subs = ss }) (set_with (HasLevels read.members)) r (InSub set.number)
+      (filled_set moves set) (filled_set new set) r.show.subs k _ r.part r.part i (HasLevels read.members) refl fits.0 refl
+      (greatest_is r.show.channels k read.members read.is_greatest) (set_filled SUBS set fits.1) refl going
 
   read_says : levels desk_limits i rest ≡ Ok (HasLevels read.members)
   read_says = ap (λ v. v >>= (λ members. Ok (HasLevels members))) (read.list ∙ ap Ok (append-nil read.members))

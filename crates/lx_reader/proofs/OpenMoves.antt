@@ -1,9 +1,9 @@
 -- Moves that are kept by channel.
-use Rattle.lx_reader.proofs.Imports.{◌≡◌, ℕ, zero, suc, ◌+◌, ◌<◌, ◌≤◌, Bool, true, false, List, [], ◌∷◌, ◌++◌, length, take}
-use Rattle.lx_reader.proofs.Imports.{drop, get_or, replicate, refl, ap, ◌∙◌, sym, subst, arith, append_assoc, append-nil, ◌-◌, map, IfSome}
-use Rattle.lx_reader.proofs.Imports.{if◌then◌else◌, slice_get, slice_set, fold, max, false≢true, drop-drop, drop_all, AllByRecursion, Move}
-use Rattle.lx_reader.proofs.Imports.{IsStrictlySorted, placed, lt_true, lt_false, each, all_append, goes_between, stands_between, AreNumbered, ReadsLevels}
-use Rattle.lx_reader.proofs.Imports.{moves_there, all_pairs, onto, moves_of, CHANNELS, Member, ValidMember, map-append, fold-append}
+use Rattle.lx_reader.proofs.Imports.{◌≡◌, ℕ, zero, suc, ◌+◌, ◌<◌, ◌≤◌, Bool, true, false, List, [], ◌∷◌, ◌++◌, length, take, drop, replicate, refl}
+use Rattle.lx_reader.proofs.Imports.{ap, ◌∙◌, sym, subst, arith, append_assoc, append-nil, ◌-◌, map, IfSome, slice_get, slice_set, fold, max}
+use Rattle.lx_reader.proofs.Imports.{false≢true, drop-drop, drop_all, AllByRecursion, Move, IsStrictlySorted, placed, lt_true, lt_false, each}
+use Rattle.lx_reader.proofs.Imports.{all_append, goes_between, stands_between, AreNumbered, ReadsLevels, moves_there, all_pairs, onto, moves_of}
+use Rattle.lx_reader.proofs.Imports.{CHANNELS, Member, ValidMember, map-append, fold-append}
 use Rattle.lx_reader.proofs.SectionLevels.{onto_again, onto_nothing}
 
 later : (c : ℕ) (m : Move) (moves : List Move) → AreNumbered c (m ∷ moves) → AreNumbered (c + 1) moves
@@ -65,24 +65,6 @@ slot_written c (suc k) (x ∷ moves) (true ∷ flags) m numbered within long at 
     rw (lt_true x.chan m.chan above, lt_false m.chan x.chan (omega arith))
     (ap (λ ms. x ∷ ms)
     (slot_written (c + 1) k moves flags m (later c x moves numbered) (omega arith) (omega (arith, long)) (omega (arith, at))))
-
--- those from a place on are the one there and those behind it
-next_there : (i : ℕ) (moves : List Move) (flags : List Bool) (d : Move) (e : Bool) → i < length moves → i < length flags
-    → moves_there (drop i moves) (drop i flags)
-    ≡ (if get_or flags i e then get_or moves i d ∷ [] else []) ++ moves_there (drop (suc i) moves) (drop (suc i) flags)
-next_there i [] flags d e within inside = absurd (omega (arith, within))
-next_there i (m ∷ moves) [] d e within inside = absurd (omega (arith, inside))
-next_there zero (m ∷ moves) (true ∷ flags) d e within inside = refl
-next_there zero (m ∷ moves) (false ∷ flags) d e within inside = refl
-next_there (suc i) (m ∷ moves) (b ∷ flags) d e within inside = next_there i moves flags d e (omega arith) (omega arith)
-
-pub there_next : (i : ℕ) (moves : List Move) (flags : List Bool) (d : Move) (e : Bool) → i < length moves → i < length flags
-    → moves_there (drop i moves) (drop i flags)
-    ≡ (if get_or flags i e then get_or moves i d ∷ [] else []) ++ moves_there (drop (i + 1) moves) (drop (i + 1) flags)
-there_next i moves flags d e within inside =
-    let same : suc i ≡ i + 1 = omega arith in
-    next_there i moves flags d e within inside
-    ∙ ap (λ n. (if get_or flags i e then get_or moves i d ∷ [] else []) ++ moves_there (drop n moves) (drop n flags)) same
 
 none_left : (c n : ℕ) (xs : List Move) → n ≡ c → AllByRecursion (λ m. m.chan < n) xs → AllByRecursion (λ m. c ≤ m.chan) xs → [] ≡ xs
 none_left c n [] same below above = refl

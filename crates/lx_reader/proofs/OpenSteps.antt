@@ -1,11 +1,11 @@
 -- Lines that say something of the open record are steps of the reading.
 use Rattle.lx_reader.proofs.Imports.{◌≡◌, ℕ, Bool, true, false, List, Option, Result, Ok, Err, refl, ap, ◌∙◌, sym, subst, IsTrue, unwrap_or, OnOk}
-use Rattle.lx_reader.proofs.Imports.{IsSomeAnd, option_map_or, IsErrAnd, IsOkAnd, GROUPS, SUBS, Move, Section, InCue, InGroup, InSub, TextFault, Word, Entry}
-use Rattle.lx_reader.proofs.Imports.{NamesPart, HasUp, HasDown, Follows, Links, IsLabelled, Blocks, Asserts, is_end, part_named, times, cue_entry, inner_entry}
-use Rattle.lx_reader.proofs.Imports.{members_entry, Cue, IsTime, MemberSet, Show, has_entry, placed, entry_at-placed_here, placed_again, changed, Open, Reader}
-use Rattle.lx_reader.proofs.Imports.{next_times, ChangesCue, CueSays, HasParts, LabelSays, facts_at, is_own, IsStep, Said, facts_of, state_of, HasPartIn}
-use Rattle.lx_reader.proofs.Imports.{IsOpen, ReadingState, cue_with, facts_in, placed_in, set_with, show_with, state_after, with_down, with_up, CueFits}
-use Rattle.lx_reader.proofs.Imports.{OpenFits, SetFits, filled_cue, filled_set, with_open}
+use Rattle.lx_reader.proofs.Imports.{IsSomeAnd, option_map_or, IsErrAnd, IsOkAnd, Move, Section, InCue, InGroup, InSub, TextFault, Word, Entry}
+use Rattle.lx_reader.proofs.Imports.{IsLabelled, is_end, part_named, times, cue_entry, inner_entry, members_entry, Cue, MemberSet, Show, has_entry}
+use Rattle.lx_reader.proofs.Imports.{placed, entry_at-placed_here, placed_again, changed, Open, Reader, next_times, ChangesCue, CueSays, HasParts}
+use Rattle.lx_reader.proofs.Imports.{LabelSays, facts_at, is_own, IsStep, Said, facts_of, state_of, HasPartIn, IsOpen, ReadingState, cue_with}
+use Rattle.lx_reader.proofs.Imports.{facts_in, set_with, state_after, CueFits, OpenFits, SetFits, filled_cue, filled_set, with_open, Ends, HasLevels}
+use Rattle.lx_reader.proofs.Imports.{Facts}
 use Rattle.lx_spec.specs.declared.Word.TheVariants as words
 use Rattle.lx_reader.specs.declared.open_record.Open.TheVariants as open_records
 use Rattle.lx_reader.proofs.LineSteps.{times_ok}
@@ -22,88 +22,55 @@ changed_here key f x xs same =
     ap (λ o. option_map_or (λ z. placed key (f z) (placed key x xs)) o (placed key x xs)) (entry_at-placed_here key (key x) x xs refl)
     ∙ placed_again key x (f x) xs same
 
--- What an entry of a record's own comes to.
-step_own : (i : ℕ) (e : Entry) (t : ReadingState) → is_own e ≡ true
-    → state_after i e t ≡ record t { show = show_with (placed_in t e) t.show; part = unwrap_or (part_named e) t.part }
-step_own i e t = elim e as
-    (λ e. is_own e ≡ true → state_after i e t ≡ record t { show = show_with (placed_in t e) t.show; part = unwrap_or (part_named e) t.part }) [
-      | NamesPart p ↦ λ own. refl
-      | HasUp time delay ↦ λ own. refl
-      | HasDown time delay ↦ λ own. refl
-      | Follows time ↦ λ own. refl
-      | Links n ↦ λ own. refl
-      | IsLabelled label ↦ λ own. refl
-      | Blocks ↦ λ own. refl
-      | Asserts ↦ λ own. refl
-      | _ ↦ λ own. cc
-    ]
+-- An entry changes the record that is open, which stands in a list of the show. The list is put in with the count of channels.
+pub step_by : {A : Type 0} (key : A → ℕ) (put : ℕ → List A → Show) (change : A → A) (r : Reader) (section : Section) (x filled : A)
+    (xs : List A) (k n q p i : ℕ) (e : Entry)
+    → state_after i e (state_of (record r { show = put r.show.channels (placed key x xs); section = section }))
+    ≡ record (state_of r) { show = put n (changed key (key x) change (placed key x xs)); section = section; part = p }
+    → r.section ≡ section → key (change x) ≡ key x → k ≡ n → filled ≡ change x → q ≡ p → r.ended ≡ is_end e
+    → IsStep (record r { show = put r.show.channels (placed key x xs) })
+    (record r { show = put k (placed key filled xs); part = q }) i e
+step_by key put change r section x filled xs k n q p i e after inside same channels is part going = record {
+  state = (λ j. record (state_of r) {
+    show = put (channels j) ((ap (λ y. placed key y xs) is ∙ sym (changed_here key change x xs same)) j);
+    section = inside j;
+    part = part j;
+  })
+      ∙ sym after ∙ (λ j. state_after i e (state_of (record r { show = put r.show.channels (placed key x xs); section = sym inside j })));
+  ended = going;
+}
 
-own_goes_on : (e : Entry) → is_own e ≡ true → is_end e ≡ false
-own_goes_on e = elim e as (λ e. is_own e ≡ true → is_end e ≡ false) [
-  | NamesPart p ↦ λ own. refl
-  | HasUp time delay ↦ λ own. refl
-  | HasDown time delay ↦ λ own. refl
-  | Follows time ↦ λ own. refl
-  | Links n ↦ λ own. refl
-  | IsLabelled label ↦ λ own. refl
-  | Blocks ↦ λ own. refl
-  | Asserts ↦ λ own. refl
-  | _ ↦ λ own. cc
-]
+-- what an entry of a cue's own comes to
+own_goes_on : (e : Entry) → is_own e ≡ true → false ≡ is_end e
+own_goes_on e = elim e as (λ e. is_own e ≡ true → false ≡ is_end e) [ Ends ↦ λ own. cc | _ ↦ λ own. refl ]
 
-own_of_cue : (n p : ℕ) (e : Entry) (show : Show) → is_own e ≡ true
-    → show_with (record { section = InCue n; part = p; entry = e }) show
-    ≡ record show { cues = changed (λ c. c.number) n (cue_with p e) show.cues }
-own_of_cue n p e show = elim e as
-    (λ e. is_own e ≡ true → show_with (record { section = InCue n; part = p; entry = e }) show
-    ≡ record show { cues = changed (λ c. c.number) n (cue_with p e) show.cues }) [
-      | NamesPart p ↦ λ own. refl
-      | HasUp time delay ↦ λ own. refl
-      | HasDown time delay ↦ λ own. refl
-      | Follows time ↦ λ own. refl
-      | Links n ↦ λ own. refl
-      | IsLabelled label ↦ λ own. refl
-      | Blocks ↦ λ own. refl
-      | Asserts ↦ λ own. refl
-      | _ ↦ λ own. cc
-    ]
+own_after : (i n p : ℕ) (e : Entry) (t : ReadingState) → is_own e ≡ true → state_after i e (record t { section = InCue n; part = p })
+    ≡ record t {
+      show = record t.show { cues = changed (λ c. c.number) n (cue_with p e) t.show.cues };
+      section = InCue n;
+      part = unwrap_or (part_named e) p;
+    }
+own_after i n p e t = elim e as (λ e. is_own e ≡ true → state_after i e (record t { section = InCue n; part = p })
+    ≡ record t {
+      show = record t.show { cues = changed (λ c. c.number) n (cue_with p e) t.show.cues };
+      section = InCue n;
+      part = unwrap_or (part_named e) p;
+    }) [ Ends ↦ λ own. cc | _ ↦ λ own. cc ]
 
 -- it says nothing of the levels
 filled_with : (p : ℕ) (e : Entry) (moves : List Move) (cue : Cue) → is_own e ≡ true
-    → cue_with p e (filled_cue moves cue) ≡ filled_cue moves (cue_with p e cue)
-filled_with p e moves cue = elim e as (λ e. is_own e ≡ true → cue_with p e (filled_cue moves cue) ≡ filled_cue moves (cue_with p e cue)) [
-  | NamesPart p ↦ λ own. refl
-  | HasUp time delay ↦ λ own. refl
-  | HasDown time delay ↦ λ own. refl
-  | Follows time ↦ λ own. refl
-  | Links n ↦ λ own. refl
-  | IsLabelled label ↦ λ own. refl
-  | Blocks ↦ λ own. refl
-  | Asserts ↦ λ own. refl
-  | _ ↦ λ own. cc
-]
-
-cue_shown : (p : ℕ) (e : Entry) (section : Section) (moves : List Move) (cue : Cue) (show : Show) → is_own e ≡ true → section ≡ InCue cue.number
-    → with_open (open_records.Cue (cue_with p e cue)) moves show
-    ≡ show_with (record { section = section; part = p; entry = e }) (with_open (open_records.Cue cue) moves show)
-cue_shown p e section moves cue show own inside =
-    (λ j. record show { cues = placed (λ c. c.number) (sym (filled_with p e moves cue own) j) show.cues })
-    ∙ (λ j. record show { cues = sym (changed_here (λ c. c.number) (cue_with p e) (filled_cue moves cue) show.cues refl) j })
-    ∙ sym (own_of_cue cue.number p e (with_open (open_records.Cue cue) moves show) own)
-    ∙ ap (λ s. show_with (record { section = s; part = p; entry = e }) (with_open (open_records.Cue cue) moves show)) (sym inside)
+    → filled_cue moves (cue_with p e cue) ≡ cue_with p e (filled_cue moves cue)
+filled_with p e moves cue = elim e as (λ e. is_own e ≡ true → filled_cue moves (cue_with p e cue) ≡ cue_with p e (filled_cue moves cue))
+    [ HasLevels members ↦ λ own. cc | _ ↦ λ own. refl ]
 
 cue_step : (r : Reader) (moves : List Move) (old new : Cue) (q i : ℕ) (e : Entry) → r.section ≡ InCue old.number → r.ended ≡ false
     → ChangesCue old new r.part q e
     → IsStep (opened r (open_records.Cue old) moves) (opened (record r { part = q }) (open_records.Cue new) moves) i e
-cue_step r moves old new q i e inside going change = record {
-  state = (λ j. record (state_of r) { show = with_open (open_records.Cue (change.cue j)) moves r.show; part = change.part j })
-      ∙ (λ j. record (state_of r) {
-        show = cue_shown r.part e r.section moves old r.show change.own inside j;
-        part = unwrap_or (part_named e) r.part;
-      })
-      ∙ sym (step_own i e (state_of (opened r (open_records.Cue old) moves)) change.own);
-  ended = going ∙ sym (own_goes_on e change.own);
-}
+cue_step r moves old new q i e inside going change =
+    step_by (λ c. c.number) (λ k cs. record r.show { channels = k; cues = cs }) (cue_with r.part e) r (InCue old.number) (filled_cue moves old)
+    (filled_cue moves new) r.show.cues r.show.channels r.show.channels q (unwrap_or (part_named e) r.part) i e
+    (own_after i old.number r.part e (state_of (opened r (open_records.Cue old) moves)) change.own) inside refl refl
+    (ap (filled_cue moves) change.cue ∙ filled_with r.part e moves old change.own) change.part (going ∙ own_goes_on e change.own)
 
 -- What a line says is told by its number alone.
 cue_at : (t : ReadingState) (i : ℕ) (line : List ℕ) (word : Word) (rest : List (List ℕ))
@@ -132,28 +99,6 @@ cue_said_by r moves old new q i (Ok false) x inside going says =
     (says.0, λ j. opened (record r { part = says.1.1 j }) (open_records.Cue (says.1.0 j)) moves)
 cue_said_by r moves old new q i (Err fault) x inside going says = says
 
-pub cue_said : (r : Reader) (moves : List Move) (old new : Cue) (q i : ℕ) (line : List ℕ) (word : Word) (rest : List (List ℕ))
-    (result : Result Bool TextFault) → r.section ≡ InCue old.number → r.ended ≡ false
-    → CueSays (cue_entry (facts_at i) line word rest) old new r.part q result
-    → Said (opened r (open_records.Cue old) moves) (opened (record r { part = q }) (open_records.Cue new) moves) i result
-    (inner_entry r.section (facts_of (opened r (open_records.Cue old) moves) i) line word rest)
-cue_said r moves old new q i line word rest result inside going says =
-    let t : ReadingState = state_of (opened r (open_records.Cue old) moves) in
-    subst (Said (opened r (open_records.Cue old) moves) (opened (record r { part = q }) (open_records.Cue new) moves) i result)
-    (sym (ap (λ s. inner_entry s (facts_in t i) line word rest) inside ∙ cue_at t i line word rest))
-    (cue_said_by r moves old new q i result (cue_entry (facts_at i) line word rest) inside going says)
-
--- the open cue fits as before
-pub cue_still : (show : Show) (moves : List Move) (old new : Cue) (p q : ℕ) (section : Section) (result : Result Bool TextFault)
-    (x : Result Entry TextFault) → section ≡ InCue old.number → CueFits show moves old → CueSays x old new p q result
-    → OnOk result ((section ≡ InCue new.number) × CueFits show moves new)
-cue_still show moves old new p q section (Ok true) (Ok e) inside fits says =
-    (inside ∙ ap (λ (c : Cue). InCue c.number) (sym says.cue), own_fits show moves old new p q e fits says)
-cue_still show moves old new p q section (Ok true) (Err fault) inside fits says = absurd says
-cue_still show moves old new p q section (Ok false) x inside fits says =
-    (inside ∙ ap (λ (c : Cue). InCue c.number) (sym says.1.0), subst (CueFits show moves) (sym says.1.0) fits)
-cue_still show moves old new p q section (Err fault) x inside fits says = tt
-
 -- the open part is one of the cue's
 pub open_part : (r : Reader) (moves : List Move) (cue : Cue) → r.section ≡ InCue cue.number
     → IsOpen (with_open (open_records.Cue cue) moves r.show) r.section r.part → IsTrue (has_entry (λ p. p.number) r.part cue.parts)
@@ -167,7 +112,7 @@ open_part r moves cue inside there =
 abbrev pub relabelled : List ℕ → MemberSet → MemberSet
 relabelled label set = record set { label = label }
 
-pub label_fits : (limit : ℕ) (show : Show) (moves : List Move) (set : MemberSet) (label : List ℕ) (b : Bool) (x : Result Entry TextFault)
+label_fits : (limit : ℕ) (show : Show) (moves : List Move) (set : MemberSet) (label : List ℕ) (b : Bool) (x : Result Entry TextFault)
     → SetFits limit show moves set → LabelSays x set.label label b → SetFits limit show moves (relabelled label set)
 label_fits limit show moves set label true x fits says = record {
   valid = record { number = fits.valid.number; label = says.1; members = fits.valid.members };
@@ -177,35 +122,20 @@ label_fits limit show moves set label true x fits says = record {
 label_fits limit show moves set label false x fits says =
     subst (λ l. SetFits limit show moves (relabelled l set)) (sym says.1) fits
 
-group_step : (r : Reader) (moves : List Move) (set : MemberSet) (label : List ℕ) (i : ℕ) → r.section ≡ InGroup set.number → r.ended ≡ false
+pub group_step : (r : Reader) (moves : List Move) (set : MemberSet) (label : List ℕ) (i : ℕ) → r.section ≡ InGroup set.number
+    → r.ended ≡ false
     → IsStep (opened r (open_records.Group set) moves) (opened r (open_records.Group (relabelled label set)) moves) i (IsLabelled label)
-group_step r moves set label i inside going = record {
-  state = (λ j. record (state_of r) {
-    show = record r.show {
-      groups = sym (changed_here (λ s. s.number) (set_with (IsLabelled label)) (filled_set moves set) r.show.groups refl) j;
-    };
-  })
-      ∙ (λ j. record (state_of r) {
-        show = show_with (record { section = sym inside j; part = r.part; entry = IsLabelled label })
-            (with_open (open_records.Group set) moves r.show);
-      });
-  ended = going;
-}
+group_step r moves set label i inside going =
+    step_by (λ s. s.number) (λ k ss. record r.show { channels = k; groups = ss }) (set_with (IsLabelled label)) r (InGroup set.number)
+    (filled_set moves set) (filled_set moves (relabelled label set)) r.show.groups r.show.channels r.show.channels r.part r.part i
+    (IsLabelled label) refl inside refl refl refl refl going
 
-sub_step : (r : Reader) (moves : List Move) (set : MemberSet) (label : List ℕ) (i : ℕ) → r.section ≡ InSub set.number → r.ended ≡ false
+pub sub_step : (r : Reader) (moves : List Move) (set : MemberSet) (label : List ℕ) (i : ℕ) → r.section ≡ InSub set.number → r.ended ≡ false
     → IsStep (opened r (open_records.Sub set) moves) (opened r (open_records.Sub (relabelled label set)) moves) i (IsLabelled label)
-sub_step r moves set label i inside going = record {
-  state = (λ j. record (state_of r) {
-    show = record r.show {
-      subs = sym (changed_here (λ s. s.number) (set_with (IsLabelled label)) (filled_set moves set) r.show.subs refl) j;
-    };
-  })
-      ∙ (λ j. record (state_of r) {
-        show = show_with (record { section = sym inside j; part = r.part; entry = IsLabelled label })
-            (with_open (open_records.Sub set) moves r.show);
-      });
-  ended = going;
-}
+sub_step r moves set label i inside going =
+    step_by (λ s. s.number) (λ k ss. record r.show { channels = k; subs = ss }) (set_with (IsLabelled label)) r (InSub set.number)
+    (filled_set moves set) (filled_set moves (relabelled label set)) r.show.subs r.show.channels r.show.channels r.part r.part i
+    (IsLabelled label) refl inside refl refl refl refl going
 
 set_said : (make : MemberSet → Open) (r : Reader) (moves : List Move) (set : MemberSet) (label : List ℕ) (i : ℕ) (b : Bool)
     (x : Result Entry TextFault)
@@ -216,30 +146,6 @@ set_said make r moves set label i true x took says =
     subst (λ v. IsOkAnd v (IsStep (opened r (make set) moves) (opened r (make (relabelled label set)) moves) i)) (sym says.0) took
 set_said make r moves set label i false x took says = (says.0, λ j. opened r (make (relabelled (says.1 j) set)) moves)
 
-pub group_said : (r : Reader) (moves : List Move) (set : MemberSet) (label : List ℕ) (i : ℕ) (line : List ℕ) (word : Word)
-    (rest : List (List ℕ)) (b : Bool) → r.section ≡ InGroup set.number → r.ended ≡ false
-    → LabelSays (members_entry (facts_at i) line word rest) set.label label b
-    → Said (opened r (open_records.Group set) moves) (opened r (open_records.Group (relabelled label set)) moves) i (Ok b)
-    (inner_entry r.section (facts_of (opened r (open_records.Group set) moves) i) line word rest)
-group_said r moves set label i line word rest b inside going says =
-    let t : ReadingState = state_of (opened r (open_records.Group set) moves) in
-    subst (Said (opened r (open_records.Group set) moves) (opened r (open_records.Group (relabelled label set)) moves) i (Ok b))
-    (sym (ap (λ s. inner_entry s (facts_in t i) line word rest) inside ∙ members_at t i line word rest))
-    (set_said open_records.Group r moves set label i b (members_entry (facts_at i) line word rest)
-    (group_step r moves set label i inside going) says)
-
-pub sub_said : (r : Reader) (moves : List Move) (set : MemberSet) (label : List ℕ) (i : ℕ) (line : List ℕ) (word : Word)
-    (rest : List (List ℕ)) (b : Bool) → r.section ≡ InSub set.number → r.ended ≡ false
-    → LabelSays (members_entry (facts_at i) line word rest) set.label label b
-    → Said (opened r (open_records.Sub set) moves) (opened r (open_records.Sub (relabelled label set)) moves) i (Ok b)
-    (inner_entry r.section (facts_of (opened r (open_records.Sub set) moves) i) line word rest)
-sub_said r moves set label i line word rest b inside going says =
-    let t : ReadingState = state_of (opened r (open_records.Sub set) moves) in
-    subst (Said (opened r (open_records.Sub set) moves) (opened r (open_records.Sub (relabelled label set)) moves) i (Ok b))
-    (sym (ap (λ s. inner_entry s (facts_in t i) line word rest) inside ∙ members_at t i line word rest))
-    (set_said open_records.Sub r moves set label i b (members_entry (facts_at i) line word rest)
-    (sub_step r moves set label i inside going) says)
-
 -- a fault of a line
 pub cue_stops : (old new : Cue) (p q : ℕ) (result : Result Bool TextFault) (x : Result Entry TextFault) (fault : TextFault)
     → IsErrAnd result (λ told. told ≡ fault) → x ≡ Err fault → CueSays x old new p q result
@@ -247,32 +153,15 @@ cue_stops old new p q (Ok b) x fault stop is = absurd stop
 cue_stops old new p q (Err told) x fault stop is = is ∙ ap Err (sym stop)
 
 -- times
-pub up_says : (i : ℕ) (rest : List (List ℕ)) (t : ℕ × ℕ) (old new : Cue) (p : ℕ) → Ok t ≡ next_times i rest
-    → new ≡ record old { parts = changed (λ q. q.number) p (with_up t.0 t.1) old.parts } → IsTime t.0 × IsTime t.1
-    → IsOkAnd (times i HasUp rest) (ChangesCue old new p p)
-up_says i rest t old new p numbers is ranges =
-    subst (λ v. IsOkAnd v (ChangesCue old new p p)) (sym (times_ok i (λ time delay. HasUp time delay) rest t numbers))
-    (record { own = refl; cue = is; part = refl; ranges = ranges })
-
-pub down_says : (i : ℕ) (rest : List (List ℕ)) (t : ℕ × ℕ) (old new : Cue) (p : ℕ) → Ok t ≡ next_times i rest
-    → new ≡ record old { parts = changed (λ q. q.number) p (with_down t.0 t.1) old.parts } → IsTime t.0 × IsTime t.1
-    → IsOkAnd (times i HasDown rest) (ChangesCue old new p p)
-down_says i rest t old new p numbers is ranges =
-    subst (λ v. IsOkAnd v (ChangesCue old new p p)) (sym (times_ok i (λ time delay. HasDown time delay) rest t numbers))
-    (record { own = refl; cue = is; part = refl; ranges = ranges })
+pub times_say : (make : ℕ → ℕ → Entry) (i : ℕ) (rest : List (List ℕ)) (t : ℕ × ℕ) (old new : Cue) (p : ℕ) → Ok t ≡ next_times i rest
+    → ChangesCue old new p p (make t.0 t.1) → IsOkAnd (times i make rest) (ChangesCue old new p p)
+times_say make i rest t old new p numbers change =
+    subst (λ v. IsOkAnd v (ChangesCue old new p p)) (sym (times_ok i make rest t numbers)) change
 
 -- The same of whatever record is open.
 held_cue : (r : Reader) (moves : List Move) (o : Open) (cue : Cue) → o ≡ open_records.Cue cue → OpenFits r.show r.section moves o
     → (r.section ≡ InCue cue.number) × CueFits r.show moves cue
 held_cue r moves o cue is fits = subst (OpenFits r.show r.section moves) is fits
-
-held_group : (r : Reader) (moves : List Move) (o : Open) (set : MemberSet) → o ≡ open_records.Group set → OpenFits r.show r.section moves o
-    → (r.section ≡ InGroup set.number) × SetFits GROUPS r.show moves set
-held_group r moves o set is fits = subst (OpenFits r.show r.section moves) is fits
-
-held_sub : (r : Reader) (moves : List Move) (o : Open) (set : MemberSet) → o ≡ open_records.Sub set → OpenFits r.show r.section moves o
-    → (r.section ≡ InSub set.number) × SetFits SUBS r.show moves set
-held_sub r moves o set is fits = subst (OpenFits r.show r.section moves) is fits
 
 pub parts_open : (r : Reader) (moves : List Move) (o : Open) (cue : Cue) → o ≡ open_records.Cue cue → OpenFits r.show r.section moves o
     → IsOpen (with_open o moves r.show) r.section r.part → HasParts cue r.part
@@ -290,44 +179,49 @@ pub said_in_cue : (r : Reader) (moves : List Move) (o : Open) (old new : Cue) (q
     → Said (opened r o moves) (opened (record r { part = q }) (open_records.Cue new) moves) i result
     (inner_entry r.section (facts_of (opened r o moves) i) line word rest)
 said_in_cue r moves o old new q i line word rest result is fits going says =
+    let inside = (held_cue r moves o old is fits).0 in
+    let t : ReadingState = state_of (opened r (open_records.Cue old) moves) in
     subst (λ (p : Open). Said (opened r p moves) (opened (record r { part = q }) (open_records.Cue new) moves) i result
     (inner_entry r.section (facts_of (opened r p moves) i) line word rest)) (sym is)
-    (cue_said r moves old new q i line word rest result (held_cue r moves o old is fits).0 going says)
+    (subst (Said (opened r (open_records.Cue old) moves) (opened (record r { part = q }) (open_records.Cue new) moves) i result)
+    (sym (ap (λ s. inner_entry s (facts_in t i) line word rest) inside ∙ cue_at t i line word rest))
+    (cue_said_by r moves old new q i result (cue_entry (facts_at i) line word rest) inside going says))
 
 pub fits_in_cue : (r : Reader) (moves : List Move) (o : Open) (old new : Cue) (q : ℕ) (result : Result Bool TextFault) (x : Result Entry TextFault)
     → o ≡ open_records.Cue old → OpenFits r.show r.section moves o → CueSays x old new r.part q result
     → OnOk result ((r.section ≡ InCue new.number) × CueFits r.show moves new)
-fits_in_cue r moves o old new q result x is fits says =
-    let held = held_cue r moves o old is fits in cue_still r.show moves old new r.part q r.section result x held.0 held.1 says
+fits_in_cue r moves o old new q (Ok true) (Err fault) is fits says = absurd says
+fits_in_cue r moves o old new q (Ok true) (Ok e) is fits says =
+    let held = held_cue r moves o old is fits in
+    (held.0 ∙ ap (λ (c : Cue). InCue c.number) (sym says.cue), own_fits r.show moves old new r.part q e held.1 says)
+fits_in_cue r moves o old new q (Ok false) x is fits says =
+    subst (λ (c : Cue). (r.section ≡ InCue c.number) × CueFits r.show moves c) (sym says.1.0) (held_cue r moves o old is fits)
+fits_in_cue r moves o old new q (Err fault) x is fits says = tt
 
-pub said_in_group : (r : Reader) (moves : List Move) (o : Open) (set : MemberSet) (label : List ℕ) (i : ℕ) (line : List ℕ) (word : Word)
-    (rest : List (List ℕ)) (b : Bool) → o ≡ open_records.Group set → OpenFits r.show r.section moves o → r.ended ≡ false
-    → LabelSays (members_entry (facts_at i) line word rest) set.label label b
-    → Said (opened r o moves) (opened r (open_records.Group (relabelled label set)) moves) i (Ok b)
+-- A group or submaster, as it is seen and as it is.
+pub said_in_set : (make : MemberSet → Open) (section : Section) (r : Reader) (moves : List Move) (o : Open) (set seen : MemberSet)
+    (label : List ℕ) (i : ℕ) (line : List ℕ) (word : Word) (rest : List (List ℕ)) (b : Bool) → o ≡ make set → seen ≡ set
+    → r.section ≡ section
+    → ((facts : Facts) → inner_entry section facts line word rest ≡ members_entry facts line word rest)
+    → IsStep (opened r (make set) moves) (opened r (make (relabelled label set)) moves) i (IsLabelled label)
+    → LabelSays (members_entry (facts_at i) line word rest) seen.label label b
+    → Said (opened r o moves) (opened r (make (relabelled label seen)) moves) i (Ok b)
     (inner_entry r.section (facts_of (opened r o moves) i) line word rest)
-said_in_group r moves o set label i line word rest b is fits going says =
-    subst (λ (p : Open). Said (opened r p moves) (opened r (open_records.Group (relabelled label set)) moves) i (Ok b)
-    (inner_entry r.section (facts_of (opened r p moves) i) line word rest)) (sym is)
-    (group_said r moves set label i line word rest b (held_group r moves o set is fits).0 going says)
+said_in_set make section r moves o set seen label i line word rest b is view inside members took says =
+    let t : ReadingState = state_of (opened r (make set) moves) in
+    subst (λ (z : Open). Said (opened r z moves) (opened r (make (relabelled label seen)) moves) i (Ok b)
+    (inner_entry r.section (facts_of (opened r z moves) i) line word rest)) (sym is)
+    (subst (λ (q : MemberSet). Said (opened r (make set) moves) (opened r (make (relabelled label q)) moves) i (Ok b)
+    (inner_entry r.section (facts_in t i) line word rest)) (sym view)
+    (subst (Said (opened r (make set) moves) (opened r (make (relabelled label set)) moves) i (Ok b))
+    (sym (ap (λ s. inner_entry s (facts_in t i) line word rest) inside ∙ members (facts_in t i) ∙ members_at t i line word rest))
+    (set_said make r moves set label i b (members_entry (facts_at i) line word rest) took
+    (subst (λ (q : MemberSet). LabelSays (members_entry (facts_at i) line word rest) q.label label b) view says))))
 
-pub fits_in_group : (r : Reader) (moves : List Move) (o : Open) (set : MemberSet) (label : List ℕ) (b : Bool) (x : Result Entry TextFault)
-    → o ≡ open_records.Group set → OpenFits r.show r.section moves o → LabelSays x set.label label b
-    → (r.section ≡ InGroup set.number) × SetFits GROUPS r.show moves (relabelled label set)
-fits_in_group r moves o set label b x is fits says =
-    let held = held_group r moves o set is fits in (held.0, label_fits GROUPS r.show moves set label b x held.1 says)
-
-pub said_in_sub : (r : Reader) (moves : List Move) (o : Open) (set : MemberSet) (label : List ℕ) (i : ℕ) (line : List ℕ) (word : Word)
-    (rest : List (List ℕ)) (b : Bool) → o ≡ open_records.Sub set → OpenFits r.show r.section moves o → r.ended ≡ false
-    → LabelSays (members_entry (facts_at i) line word rest) set.label label b
-    → Said (opened r o moves) (opened r (open_records.Sub (relabelled label set)) moves) i (Ok b)
-    (inner_entry r.section (facts_of (opened r o moves) i) line word rest)
-said_in_sub r moves o set label i line word rest b is fits going says =
-    subst (λ (p : Open). Said (opened r p moves) (opened r (open_records.Sub (relabelled label set)) moves) i (Ok b)
-    (inner_entry r.section (facts_of (opened r p moves) i) line word rest)) (sym is)
-    (sub_said r moves set label i line word rest b (held_sub r moves o set is fits).0 going says)
-
-pub fits_in_sub : (r : Reader) (moves : List Move) (o : Open) (set : MemberSet) (label : List ℕ) (b : Bool) (x : Result Entry TextFault)
-    → o ≡ open_records.Sub set → OpenFits r.show r.section moves o → LabelSays x set.label label b
-    → (r.section ≡ InSub set.number) × SetFits SUBS r.show moves (relabelled label set)
-fits_in_sub r moves o set label b x is fits says =
-    let held = held_sub r moves o set is fits in (held.0, label_fits SUBS r.show moves set label b x held.1 says)
+pub fits_in_set : (section : ℕ → Section) (limit : ℕ) (r : Reader) (moves : List Move) (set seen : MemberSet) (label : List ℕ) (b : Bool)
+    (x : Result Entry TextFault) → seen ≡ set → (r.section ≡ section set.number) × SetFits limit r.show moves set
+    → LabelSays x seen.label label b
+    → (r.section ≡ section seen.number) × SetFits limit r.show moves (relabelled label seen)
+fits_in_set section limit r moves set seen label b x view held says =
+    subst (λ (q : MemberSet). (r.section ≡ section q.number) × SetFits limit r.show moves (relabelled label q)) (sym view)
+    (held.0, label_fits limit r.show moves set label b x held.1 (subst (λ (q : MemberSet). LabelSays x q.label label b) view says))

@@ -1,17 +1,14 @@
 -- The lists of a line, with one more pair or triple.
-use Rattle.lx_reader.proofs.Imports.{◌≡◌, ℕ, suc, ◌%◌, Bool, true, false, cond, List, [], ◌∷◌, length, Result, Ok, Err, refl, ap, ◌∙◌}
-use Rattle.lx_reader.proofs.Imports.{arith, ◌==◌, CHANNELS, DIMMERS, Member, PatchRow, TextFault, ShortList, desk_limits, read_whole, read_level, pairs}
-use Rattle.lx_reader.proofs.Imports.{triples, number, ◌>>=◌, FirstIsMember, FirstIsRow, all_pairs, all_triples, onto}
+use Rattle.lx_reader.proofs.Imports.{◌≡◌, ℕ, suc, ◌%◌, Bool, true, false, cond, List, [], ◌∷◌, length, Result, Ok, Err, refl, ap, ◌∙◌, arith, ◌==◌}
+use Rattle.lx_reader.proofs.Imports.{CHANNELS, DIMMERS, Member, PatchRow, TextFault, ShortList, desk_limits, read_whole, read_level, pairs, triples}
+use Rattle.lx_reader.proofs.Imports.{FirstIsMember, FirstIsRow, all_pairs, all_triples, onto}
+use Rattle.lx_reader.proofs.SectionLevels.{onto_one}
 
 two_more : (n : ℕ) → suc (suc n) % 2 ≡ n % 2
 two_more n = omega arith
 
 three_more : (n : ℕ) → suc (suc (suc n)) % 3 ≡ n % 3
 three_more n = omega arith
-
-onto_one : {A E : Type 0} (x : A) (r : Result (List A) E) → (r >>= (λ more. Ok (x ∷ more))) ≡ onto (x ∷ []) r
-onto_one x (Ok more) = refl
-onto_one x (Err e) = refl
 
 onto_if : {A : Type 0} (i : ℕ) (xs : List A) (b : Bool) (r : Result (List A) TextFault)
     → cond b (onto xs r) (Err (ShortList i)) ≡ onto xs (cond b r (Err (ShortList i)))
@@ -20,11 +17,7 @@ onto_if i xs false r = refl
 
 pairs_first : (i : ℕ) (c l : List ℕ) (rest : List (List ℕ)) (m : Member) → read_whole 1 CHANNELS c ≡ Ok m.chan → read_level l ≡ Ok m.level
     → pairs desk_limits i (c ∷ l ∷ rest) ≡ onto (m ∷ []) (pairs desk_limits i rest)
-pairs_first i c l rest m chan level =
-    (λ j. number i (chan j) >>= (λ x. number i (read_level l)
-    >>= (λ y. pairs desk_limits i rest >>= (λ more. Ok (record { chan = x; level = y } ∷ more)))))
-    ∙ (λ j. number i (level j) >>= (λ y. pairs desk_limits i rest >>= (λ more. Ok (record { chan = m.chan; level = y } ∷ more))))
-    ∙ onto_one m (pairs desk_limits i rest)
+pairs_first i c l rest m chan level = rw (chan, level) (onto_one m (pairs desk_limits i rest))
 
 pub all_pairs-first : (i : ℕ) (c l : List ℕ) (rest : List (List ℕ)) (m : Member) → read_whole 1 CHANNELS c ≡ Ok m.chan
     → read_level l ≡ Ok m.level → all_pairs i (c ∷ l ∷ rest) ≡ onto (m ∷ []) (all_pairs i rest)
@@ -42,15 +35,7 @@ member_first i all others m is =
 triples_first : (i : ℕ) (c e l : List ℕ) (rest : List (List ℕ)) (row : PatchRow) → read_whole 1 CHANNELS c ≡ Ok row.chan
     → read_whole 1 DIMMERS e ≡ Ok row.dimmer → read_level l ≡ Ok row.level
     → triples desk_limits i (c ∷ e ∷ l ∷ rest) ≡ onto (row ∷ []) (triples desk_limits i rest)
-triples_first i c e l rest row chan dimmer level =
-    (λ j. number i (chan j) >>= (λ x. number i (read_whole 1 DIMMERS e)
-    >>= (λ z. number i (read_level l) >>= (λ y. triples desk_limits i rest
-    >>= (λ more. Ok (record { dimmer = z; chan = x; level = y } ∷ more))))))
-    ∙ (λ j. number i (dimmer j) >>= (λ z. number i (read_level l)
-    >>= (λ y. triples desk_limits i rest >>= (λ more. Ok (record { dimmer = z; chan = row.chan; level = y } ∷ more)))))
-    ∙ (λ j. number i (level j) >>= (λ y. triples desk_limits i rest
-    >>= (λ more. Ok (record { dimmer = row.dimmer; chan = row.chan; level = y } ∷ more))))
-    ∙ onto_one row (triples desk_limits i rest)
+triples_first i c e l rest row chan dimmer level = rw (chan, dimmer, level) (onto_one row (triples desk_limits i rest))
 
 pub all_triples-first : (i : ℕ) (c e l : List ℕ) (rest : List (List ℕ)) (row : PatchRow) → read_whole 1 CHANNELS c ≡ Ok row.chan
     → read_whole 1 DIMMERS e ≡ Ok row.dimmer → read_level l ≡ Ok row.level

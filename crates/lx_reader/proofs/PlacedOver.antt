@@ -1,8 +1,8 @@
 -- A sorted list placed over another one: of each number its entry counts, where it has one.
-use Rattle.lx_reader.proofs.Imports.{◌≡◌, ℕ, ◌<◌, Bool, true, false, cond, List, [], ◌∷◌, ◌++◌, Option, Some, None, refl, ap, ◌∙◌}
-use Rattle.lx_reader.proofs.Imports.{sym, inl, inr, arith, filter, fold, length, nat_lt, AllByRecursion, cases_eq, map-append, Member, Move, IsStrictlySorted}
-use Rattle.lx_reader.proofs.Imports.{all_placed, entry_at, placed, each, IsStrictlySorted-placed, entry_at-placed_here, entry_at-placed_other}
-use Rattle.lx_reader.proofs.Imports.{IsStrictlySorted-all_placed, members_of, later, moves_of}
+use Rattle.lx_reader.proofs.Imports.{◌≡◌, ℕ, ◌<◌, Bool, List, [], ◌∷◌, ◌++◌, Option, Some, None, refl, ap, ◌∙◌, sym, inl, inr, arith, filter, fold}
+use Rattle.lx_reader.proofs.Imports.{length, nat_lt, AllByRecursion, cases_eq, map-append, Member, Move, IsStrictlySorted, all_placed, entry_at}
+use Rattle.lx_reader.proofs.Imports.{placed, each, IsStrictlySorted-placed, entry_at-placed_here, entry_at-placed_other, IsStrictlySorted-all_placed}
+use Rattle.lx_reader.proofs.Imports.{members_of, later, moves_of, cases_Bool}
 use Rattle.lx_show.proofs.SameLists.{first_here, first_other, none_low, same_lists}
 
 entry_over : {A : Type 0} (key : A → ℕ) (n : ℕ) (over xs : List A) → IsStrictlySorted key over
@@ -55,11 +55,9 @@ members_filter : (test : ℕ → Bool) (moves : List Move)
     → members_of (filter (λ m. test m.chan) moves) ≡ filter (λ m. test m.chan) (members_of moves)
 members_filter test [] = refl
 members_filter test (m ∷ moves) =
-    let one : Member = record { chan = m.chan; level = m.level } in
-    elim (test m.chan) as (λ b. members_of (cond b (m ∷ filter (λ x. test x.chan) moves) (filter (λ x. test x.chan) moves))
-    ≡ cond b (one ∷ filter (λ x. test x.chan) (members_of moves)) (filter (λ x. test x.chan) (members_of moves))) [
-      | true ↦ ap (λ ms. one ∷ ms) (members_filter test moves)
-      | false ↦ members_filter test moves
+    elim (cases_Bool (test m.chan)) [
+      | inl is ↦ rw is (ap (λ ms. record { chan = m.chan; level = m.level } ∷ ms) (members_filter test moves))
+      | inr is ↦ rw is (members_filter test moves)
     ]
 
 members_placed : (m : Move) (moves : List Move)

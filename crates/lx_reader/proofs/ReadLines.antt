@@ -1,10 +1,10 @@
 -- A show text that is read line by line.
-use Rattle.lx_reader.proofs.Imports.{◌≡◌, ℕ, suc, ◌+◌, ◌<◌, ◌≤◌, Bool, true, false, cond, List, [], ◌∷◌, ◌++◌, length, drop}
-use Rattle.lx_reader.proofs.Imports.{Result, Ok, Err, refl, ap, ◌∙◌, sym, subst, arith, add-one, append_assoc, append-nil, length-append, nat_lt, IfSome}
-use Rattle.lx_reader.proofs.Imports.{nat_tests, LINE_BYTES, Form, TextFault, NoEndData, LineTooLong, desk_limits, tokens, ◌>>=◌, Entry, PlacedEntry, is_end}
-use Rattle.lx_reader.proofs.Imports.{Facts, first_facts, facts_after, entry_by_tokens, entry_of, entries, reading_from, reads_lines, count_read, lines_read}
-use Rattle.lx_reader.proofs.Imports.{onto, ReadingState, first_state, state_after, placed_in, facts_in, final_reading}
-use Rattle.lx_reader.proofs.SectionLevels.{onto_nothing, onto_again}
+use Rattle.lx_reader.proofs.Imports.{◌≡◌, ℕ, suc, ◌+◌, ◌<◌, ◌≤◌, Bool, true, false, cond, List, [], ◌∷◌, ◌++◌, length, drop, Result, Ok, Err, refl}
+use Rattle.lx_reader.proofs.Imports.{ap, ◌∙◌, sym, subst, arith, add-one, append_assoc, append-nil, length-append, nat_lt, IfSome, nat_tests}
+use Rattle.lx_reader.proofs.Imports.{LINE_BYTES, Form, TextFault, NoEndData, LineTooLong, desk_limits, tokens, ◌>>=◌, Entry, PlacedEntry, is_end}
+use Rattle.lx_reader.proofs.Imports.{Facts, first_facts, facts_after, entry_by_tokens, entry_of, entries, reading_from, reads_lines, count_read}
+use Rattle.lx_reader.proofs.Imports.{lines_read, onto, ReadingState, first_state, state_after, placed_in, facts_in, final_reading}
+use Rattle.lx_reader.proofs.SectionLevels.{onto_nothing, onto_again, onto_one}
 use Rattle.lx_reader.proofs.ReadingStates.{IsStateOf, state_none, state_more, state_facts, state_reading}
 
 -- The lines so far, and the state that they come to: with any lines after them they mean their entries, and those of these lines.
@@ -25,10 +25,6 @@ read_none = record {
   wanted = λ more. omega arith;
 }
 
-one_more : {A E : Type 0} (x : A) (r : Result (List A) E) → (r >>= (λ more. Ok (x ∷ more))) ≡ onto (x ∷ []) r
-one_more x (Ok more) = refl
-one_more x (Err e) = refl
-
 -- the entries of a line that says this, and of the lines after it
 line_entries : (facts : Facts) (line : List ℕ) (e : Entry) (more : List (List ℕ)) (b : Bool) → entry_of facts line ≡ Ok e → is_end e ≡ b
     → entries facts (line ∷ more) ≡ cond b (Ok [])
@@ -39,7 +35,7 @@ line_entries facts line e more b says is =
     (record { section = facts.section; part = facts.part; entry = entry } ∷ rest))))) says
     ∙ ap (λ b. cond b (Ok []) (entries (facts_after facts e) more
     >>= (λ rest. Ok (record { section = facts.section; part = facts.part; entry = e } ∷ rest)))) is
-    ∙ ap (cond b (Ok [])) (one_more (record { section = facts.section; part = facts.part; entry = e }) (entries (facts_after facts e) more))
+    ∙ ap (cond b (Ok [])) (onto_one (record { section = facts.section; part = facts.part; entry = e }) (entries (facts_after facts e) more))
 
 line_refused : (facts : Facts) (line : List ℕ) (fault : TextFault) (more : List (List ℕ)) → entry_of facts line ≡ Err fault
     → entries facts (line ∷ more) ≡ Err fault

@@ -1,12 +1,12 @@
 -- The states of a reading: each comes to the last of its entries for each thing.
-use Rattle.lx_reader.proofs.Imports.{◌≡◌, ℕ, ◌+◌, ◌-◌, ◌<◌, ◌≤◌, Bool, true, false, cond, List, [], ◌∷◌, ◌++◌, map, length}
-use Rattle.lx_reader.proofs.Imports.{drop, Option, Some, None, refl, ap, ◌∙◌, sym, subst, arith, ◌&&◌, ◌==◌, is_some, not, max, fold, flat_map}
-use Rattle.lx_reader.proofs.Imports.{unwrap_or, count_by, position, IfSome, option_map_or, after_last, suffix_len, prefix_len, position_or_len, reverse-append}
-use Rattle.lx_reader.proofs.Imports.{drop-append-le, drop_all, length-append, fold-append, count_by-le-length, position_or_len_push, eqb-true, nat_tests}
-use Rattle.lx_reader.proofs.Imports.{eq_below, eq_true, lt_false, lt_true, DEFAULT_CHANNELS, Form, Show, by_form, NoRecord, Entry, ClearsAll, PlacedEntry}
-use Rattle.lx_reader.proofs.Imports.{channels_set, clears_all, is_skipped, section_begun, part_named, cue_in, facts_after, with_cue_named, reading_from}
-use Rattle.lx_reader.proofs.Imports.{numbers_begun, channels_named, last_in, IsOpen, ReadingState, later, first_state, state_after, placed_in, facts_in}
-use Rattle.lx_reader.proofs.Imports.{final_reading, show_with, number_begun}
+use Rattle.lx_reader.proofs.Imports.{◌≡◌, ℕ, ◌+◌, ◌-◌, ◌≤◌, Bool, true, false, cond, List, [], ◌∷◌, ◌++◌, map, length, drop, Option, Some, None, refl}
+use Rattle.lx_reader.proofs.Imports.{ap, ◌∙◌, sym, subst, arith, ◌&&◌, ◌==◌, is_some, not, max, fold, flat_map, unwrap_or, count_by, position, IfSome}
+use Rattle.lx_reader.proofs.Imports.{option_map_or, after_last, suffix_len, prefix_len, reverse-append, drop-append-le, drop_all, length-append}
+use Rattle.lx_reader.proofs.Imports.{fold-append, count_by-le-length, DEFAULT_CHANNELS, Form, Show, by_form, NoRecord, Entry, ClearsAll, PlacedEntry}
+use Rattle.lx_reader.proofs.Imports.{channels_set, clears_all, is_skipped, section_begun, part_named, cue_in, facts_after, with_cue_named}
+use Rattle.lx_reader.proofs.Imports.{reading_from, numbers_begun, channels_named, last_in, IsOpen, ReadingState, later, first_state, state_after}
+use Rattle.lx_reader.proofs.Imports.{placed_in, facts_in, final_reading, show_with, number_begun, inl, inr, suc, eq_above, cases_Bool}
+use Rattle.lx_reader.proofs.Imports.{position_from-zero, position_from, and_right}
 use Rattle.lx_reader.proofs.LastEntries.{last_in-more}
 use Rattle.lx_reader.proofs.Shows.{show_so_far, show-more, greatest-from, IsRooted, IsBegun}
 use Rattle.lx_reader.proofs.EntryRoots.{rooted-none, rooted-more}
@@ -37,9 +37,6 @@ after_push test xs x false is =
 abbrev one_if : Bool → ℕ
 one_if b = cond b 1 0
 
-abbrev none_if : Bool → ℕ
-none_if b = cond b 0 1
-
 count_push : {A : Type 0} (test : A → Bool) (xs : List A) (x : A) → count_by test (xs ++ x ∷ []) ≡ count_by test xs + one_if (test x)
 count_push test xs x = fold-append (λ a z. a + one_if (test z)) 0 xs (x ∷ [])
 
@@ -47,73 +44,32 @@ count_from : {A : Type 0} (test : A → Bool) (xs : List A) (n : ℕ) → fold (
 count_from test [] n = omega arith
 count_from test (x ∷ xs) n = omega (arith, count_from test xs (n + one_if (test x)), count_from test xs (0 + one_if (test x)))
 
-not_zero : (n : ℕ) → (n == 0) ≡ false → 0 < n
-not_zero n h = grind (arith, nat_tests)
-
--- where none passes the first place is the length, and otherwise it is below
-pub record FirstPlace {A : Type 0} (test : A → Bool) (xs : List A) : Type 0 where
-  pub none : count_by test xs ≡ 0 → position_or_len test xs ≡ length xs
-  pub some : 0 < count_by test xs → position_or_len test xs < length xs
-
-first_cons : {A : Type 0} (test : A → Bool) (x : A) (xs : List A) (b : Bool) → test x ≡ b → FirstPlace test xs → FirstPlace test (x ∷ xs)
-first_cons test x xs true is rest =
-    let count = count_from test xs (0 + one_if (test x)) in
-    let one : one_if (test x) ≡ 1 = rw is refl in
-    let place : position_or_len test (x ∷ xs) ≡ 0 = rw is refl in
-    record { none = λ zero. absurd (omega (arith, count, one)); some = λ more. omega (arith, place) }
-first_cons test x xs false is rest =
-    let count = count_from test xs (0 + one_if (test x)) in
-    let nothing : one_if (test x) ≡ 0 = rw is refl in
-    let place : position_or_len test (x ∷ xs) ≡ 1 + position_or_len test xs = rw is refl in
-    record {
-      none = λ zero. let none : count_by test xs ≡ 0 = omega (arith, count, nothing) in omega (arith, place, rest.none none);
-      some = λ more. let some : 0 < count_by test xs = omega (arith, count, nothing) in omega (arith, place, rest.some some);
-    }
-
-first_place : {A : Type 0} (test : A → Bool) (xs : List A) → FirstPlace test xs
-first_place test [] = record { none = λ zero. refl; some = λ more. absurd (omega arith) }
-first_place test (x ∷ xs) = first_cons test x xs (test x) refl (first_place test xs)
-
 -- the number of the first that passes, or 0
-abbrev first_number : {A : Type 0} → (A → Bool) → List A → ℕ
+abbrev pub first_number : {A : Type 0} → (A → Bool) → List A → ℕ
 first_number test xs = option_map_or (λ i. i + 1) (position test xs) 0
 
-first_below : {A : Type 0} (test : A → Bool) (xs : List A) → position_or_len test xs < length xs
-    → first_number test xs ≡ position_or_len test xs + 1
-first_below test xs below = ap (λ b. option_map_or (λ i. i + 1) (cond b (Some (position_or_len test xs)) None) 0)
-    (lt_true (position_or_len test xs) (length xs) below)
+-- the same, where n stand before these
+abbrev number_from : {A : Type 0} → (A → Bool) → ℕ → List A → ℕ
+number_from test n xs = option_map_or (λ i. i + 1) (position_from test n xs) 0
 
-first_none : {A : Type 0} (test : A → Bool) (xs : List A) → length xs ≤ position_or_len test xs → first_number test xs ≡ 0
-first_none test xs none = ap (λ b. option_map_or (λ i. i + 1) (cond b (Some (position_or_len test xs)) None) 0)
-    (lt_false (position_or_len test xs) (length xs) none)
+from_push : {A : Type 0} (test : A → Bool) (xs : List A) (x : A) (n : ℕ)
+    → number_from test n (xs ++ x ∷ []) ≡ cond (test x && count_by test xs == 0) (n + length xs + 1) (number_from test n xs)
+from_push test [] x n = elim (test x) as (λ b. option_map_or (λ i. i + 1) (cond b (Some n) None) 0 ≡ cond (b && true) (n + 0 + 1) 0)
+    [ true ↦ omega arith | false ↦ refl ]
+from_push test (y ∷ xs) x n = elim (cases_Bool (test y)) [
+  | inl is ↦
+      let some : (fold (λ a z. a + one_if (test z)) 1 xs == 0) ≡ false =
+      eq_above (fold (λ a z. a + one_if (test z)) 1 xs) 0 (omega (arith, count_from test xs 1)) in
+      rw is (sym (ap (λ b. cond b (n + suc (length xs) + 1) (n + 1)) (and_right (test x) _ some)))
+  | inr is ↦ rw is (from_push test xs x (n + 1) ∙ ap (λ k. cond (test x && count_by test xs == 0) k (number_from test (n + 1) xs)) (omega arith))
+]
 
-place_push : {A : Type 0} (test : A → Bool) (xs : List A) (x : A) (b : Bool) → (position_or_len test xs == length xs) ≡ b
-    → position_or_len test (xs ++ x ∷ []) ≡ cond b (length xs + none_if (test x)) (position_or_len test xs)
-place_push test xs x b is = position_or_len_push test xs x ∙ ap (λ b. cond b (length xs + none_if (test x)) (position_or_len test xs)) is
-
-first_push : {A : Type 0} (test : A → Bool) (xs : List A) (x : A) (b c : Bool) → test x ≡ b → (count_by test xs == 0) ≡ c
-    → first_number test (xs ++ x ∷ []) ≡ cond (b && c) (length xs + 1) (first_number test xs)
-first_push test xs x b false is count =
-    let below : position_or_len test xs < length xs = (first_place test xs).some (not_zero (count_by test xs) count) in
-    let place : position_or_len test (xs ++ x ∷ []) ≡ position_or_len test xs =
-    place_push test xs x false (eq_below (position_or_len test xs) (length xs) below) in
-    let same : first_number test (xs ++ x ∷ []) ≡ first_number test xs =
-    first_below test (xs ++ x ∷ []) (omega (arith, place, length-append xs (x ∷ []))) ∙ ap (λ n. n + 1) place
-    ∙ sym (first_below test xs below) in
-    elim b as (λ b. first_number test (xs ++ x ∷ []) ≡ cond (b && false) (length xs + 1) (first_number test xs))
-    [ true ↦ same | false ↦ same ]
-first_push test xs x true true is count =
-    let end : position_or_len test xs ≡ length xs = (first_place test xs).none (eqb-true (count_by test xs) 0 count) in
-    let here : none_if (test x) ≡ 0 = rw is refl in
-    let place : position_or_len test (xs ++ x ∷ []) ≡ length xs + none_if (test x) =
-    place_push test xs x true (eq_true (position_or_len test xs) (length xs) end) in
-    first_below test (xs ++ x ∷ []) (omega (arith, place, here, length-append xs (x ∷ []))) ∙ omega (arith, place, here)
-first_push test xs x false true is count =
-    let end : position_or_len test xs ≡ length xs = (first_place test xs).none (eqb-true (count_by test xs) 0 count) in
-    let here : none_if (test x) ≡ 1 = rw is refl in
-    let place : position_or_len test (xs ++ x ∷ []) ≡ length xs + none_if (test x) =
-    place_push test xs x true (eq_true (position_or_len test xs) (length xs) end) in
-    first_none test (xs ++ x ∷ []) (omega (arith, place, here, length-append xs (x ∷ []))) ∙ sym (first_none test xs (omega (arith, end)))
+first_push : {A : Type 0} (test : A → Bool) (xs : List A) (x : A)
+    → first_number test (xs ++ x ∷ []) ≡ cond (test x && count_by test xs == 0) (length xs + 1) (first_number test xs)
+first_push test xs x =
+    let same : 0 + length xs + 1 ≡ length xs + 1 = omega arith in
+    ap (λ o. option_map_or (λ i. i + 1) o 0) (position_from-zero test (xs ++ x ∷ [])) ∙ from_push test xs x 0
+    ∙ (λ j. cond (test x && count_by test xs == 0) (same j) (option_map_or (λ i. i + 1) (sym (position_from-zero test xs) j) 0))
 
 -- what the entries come to, and what is open was begun
 pub record IsStateOf (all : List PlacedEntry) (t : ReadingState) : Type 0 where
@@ -198,8 +154,7 @@ state_more all t e state =
           ∙ sym (count_push (λ z. is_skipped z.entry) all (placed_in t e));
       first_skipped =
           (λ i. cond (is_skipped e && state.skipped i == 0) (length all + 1) (state.first_skipped i))
-          ∙ sym (first_push (λ z. is_skipped z.entry) all (placed_in t e) (is_skipped e) (count_by (λ z. is_skipped z.entry) all == 0) refl
-          refl);
+          ∙ sym (first_push (λ z. is_skipped z.entry) all (placed_in t e));
     }
 
 -- the facts of the state after it are those after the entry
@@ -213,7 +168,7 @@ cues_after all t e false clears state =
     let more : since_cleared (all ++ s ∷ []) ≡ since_cleared all ++ s ∷ [] = after_push (λ z. clears_all z.entry) all s false clears in
     state_cues (all ++ s ∷ []) (state_after (length all + 1) e t) (state_more all t e state)
     ∙ ap (numbers_begun cue_in) more
-    ∙ sym (cues_next (since_cleared all) s (number_begun cue_in e) (map (λ cue. cue.number) t.show.cues) refl (state_cues all t state))
+    ∙ sym (cues_next (since_cleared all) s (map (λ cue. cue.number) t.show.cues) (state_cues all t state))
 
 pub state_facts : (all : List PlacedEntry) (t : ReadingState) (e : Entry) → IsStateOf all t
     → facts_after (facts_in t (length all + 1)) e ≡ facts_in (state_after (length all + 1) e t) (length all + 1 + 1)
@@ -229,14 +184,9 @@ set_or_default : (o : Option ℕ) → IfSome o (λ n. 1 ≤ n) → 1 ≤ unwrap_
 set_or_default None h = omega arith
 set_or_default (Some n) h = h
 
-max_one : (a : ℕ) → 1 ≤ a → max a 1 ≡ a
-max_one a h = omega arith
-
-max_order : (a b : ℕ) → max a b ≡ max b a
-max_order a b = omega arith
-
 counted : (named : List ℕ) (n : ℕ) → 1 ≤ n → max (fold max 1 named) n ≡ fold max n named
-counted named n least = max_order (fold max 1 named) n ∙ sym (greatest-from n 1 named) ∙ ap (λ k. fold max k named) (max_one n least)
+counted named n least =
+    let same : max n 1 ≡ n = omega arith in omega (arith, greatest-from n 1 named, ap (λ k. fold max k named) same)
 
 pub state_reading : (form : Form) (all : List PlacedEntry) (t : ReadingState) → IsStateOf all t → IfSome t.channels_set (λ n. 1 ≤ n)
     → reading_from form all ≡ final_reading form t

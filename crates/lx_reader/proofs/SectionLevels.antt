@@ -1,6 +1,6 @@
 -- Entries that are put into a show one after another.
-use Rattle.lx_reader.proofs.Imports.{◌≡◌, ℕ, false, List, [], ◌∷◌, ◌++◌, map, refl, ap, ◌∙◌, sym, append_assoc, IsTrue, Result, Ok, Err}
-use Rattle.lx_reader.proofs.Imports.{fold, max, map-append, fold-append, PatchRow, placed, all_placed, Show, with_rows, all_triples, onto}
+use Rattle.lx_reader.proofs.Imports.{◌≡◌, ℕ, List, [], ◌∷◌, ◌++◌, map, refl, ap, ◌∙◌, sym, append_assoc, Result, Ok, Err, fold, max, map-append}
+use Rattle.lx_reader.proofs.Imports.{fold-append, PatchRow, placed, all_placed, Show, with_rows, all_triples, onto, ◌>>=◌}
 
 pub rows-again : (xs ys : List PatchRow) (show : Show) → with_rows ys (with_rows xs show) ≡ with_rows (xs ++ ys) show
 rows-again xs ys show =
@@ -16,6 +16,10 @@ rows-again xs ys show =
 pub onto_nothing : {A E : Type 0} (r : Result (List A) E) → r ≡ onto [] r
 onto_nothing (Ok xs) = refl
 onto_nothing (Err e) = refl
+
+pub onto_one : {A E : Type 0} (x : A) (r : Result (List A) E) → (r >>= (λ more. Ok (x ∷ more))) ≡ onto (x ∷ []) r
+onto_one x (Ok more) = refl
+onto_one x (Err e) = refl
 
 pub onto_again : {A E : Type 0} (xs ys : List A) (r : Result (List A) E) → onto xs (onto ys r) ≡ onto (xs ++ ys) r
 onto_again xs ys (Ok zs) = ap Ok (sym (append_assoc xs ys zs))
@@ -37,6 +41,3 @@ rows_more i old mid new all rest rest' row so_far next is = record {
   list = so_far.list ∙ ap (onto so_far.done) next ∙ onto_again so_far.done (row ∷ []) (all_triples i rest');
   show = is ∙ ap (with_rows (row ∷ [])) so_far.show ∙ rows-again so_far.done (row ∷ []) old;
 }
-
-is_nothing : IsTrue false → ⊥
-is_nothing h = cc

@@ -1,24 +1,21 @@
 -- The show of the entries, with one more.
-use Rattle.lx_reader.proofs.Imports.{◌≡◌, ℕ, Bool, true, false, cond, List, [], ◌∷◌, ◌++◌, map, Option, Some, None, refl, ap, ◌∙◌}
-use Rattle.lx_reader.proofs.Imports.{append-nil, arith, ◌==◌, filter, fold, flat_map, filter_map, option_and_then, max, IfSome, cons_option}
-use Rattle.lx_reader.proofs.Imports.{flat_map-append, fold-append, filter_map-append, Show, placed, has_entry, all_placed, Section, NoRecord, Entry, Skipped}
-use Rattle.lx_reader.proofs.Imports.{Identifies, Begins, ClearsAll, HasChannels, Patches, PlacedEntry, part_named, cue_in, group_in, sub_in, rows_in}
-use Rattle.lx_reader.proofs.Imports.{last_of_each, numbers_begun, stands_in, each_record, cue_from, group_from, sub_from, channels_named, show_from, new_cue}
-use Rattle.lx_reader.proofs.Imports.{with_named, changed_in, cue_with, set_with, change_by, number_begun, speaks, new_set, show_with}
-use Rattle.lx_reader.proofs.LastEntries.{filter-more}
+use Rattle.lx_reader.proofs.Imports.{◌≡◌, ℕ, Bool, true, false, cond, List, [], ◌∷◌, ◌++◌, map, Option, Some, None, refl, ap, ◌∙◌, append-nil, arith}
+use Rattle.lx_reader.proofs.Imports.{◌==◌, filter, fold, flat_map, filter_map, option_and_then, max, IfSome, cons_option, Show, placed, has_entry}
+use Rattle.lx_reader.proofs.Imports.{Section, NoRecord, Entry, Skipped, Identifies, Begins, ClearsAll, HasChannels, Patches, PlacedEntry, part_named}
+use Rattle.lx_reader.proofs.Imports.{cue_in, group_in, sub_in, rows_in, numbers_begun, stands_in, each_record, cue_from, group_from, sub_from}
+use Rattle.lx_reader.proofs.Imports.{channels_named, show_from, new_cue, with_named, changed_in, cue_with, set_with, change_by, number_begun, speaks}
+use Rattle.lx_reader.proofs.Imports.{new_set, show_with, part_from, cond_both}
+use Rattle.lx_reader.proofs.LastEntries.{filter-more, fold_flat-more, fold_picked-more}
 use Rattle.lx_reader.proofs.PlacedNumbers.{IsStrictlySorted-numbers}
 use Rattle.lx_reader.proofs.MadeEntries.{is_at, after_change, listed-more}
-use Rattle.lx_reader.proofs.Cues.{parts_named, HasPart, IsFresh, part_of-none, cue_from-with}
+use Rattle.lx_reader.proofs.Cues.{parts_named, HasPart, IsFresh, cue_from-with}
 use Rattle.lx_reader.proofs.Groups.{set_from-with}
 
 -- the numbers that entries begin, with one entry more
 pub begun-more : (number : Section → Option ℕ) (all : List PlacedEntry) (s : PlacedEntry)
     → numbers_begun number (all ++ s ∷ []) ≡ fold (λ ys x. placed (λ n. n) x ys) (numbers_begun number all)
     (cons_option (number_begun number s.entry) [])
-begun-more number all s =
-    ap (last_of_each (λ n. n)) (filter_map-append (λ z. number_begun number z.entry) all (s ∷ []))
-    ∙ fold-append (λ ys x. placed (λ n. n) x ys) [] (filter_map (λ z. number_begun number z.entry) all)
-    (cons_option (number_begun number s.entry) [])
+begun-more number all s = fold_picked-more (λ ys x. placed (λ n. n) x ys) [] (λ z. number_begun number z.entry) all s
 
 -- of what was not begun nothing was said
 abbrev pub IsRootedBy : (Section → Option ℕ) → List PlacedEntry → Type 0
@@ -58,12 +55,6 @@ alone {A} number with_it entry = elim entry as (λ e. IfSome (number_begun numbe
   | _ ↦ tt
 ]
 
--- a change keeps the number
-keeps : {A : Type 0} (key : A → ℕ) (with_it : A → A) (b : Bool) (x : A) → key (with_it x) ≡ key x
-    → key (after_change (cond b (Some with_it) None) x) ≡ key x
-keeps key with_it true x same = same
-keeps key with_it false x same = refl
-
 -- The cues, groups or submasters with one entry more, which changes the one in whose section it stands.
 abbrev pub made : {A : Type 0} → (Section → Option ℕ) → (List PlacedEntry → ℕ → A) → List PlacedEntry → ℕ → A
 made number from all n = from (filter (stands_in number n) all) n
@@ -83,7 +74,7 @@ each_record-more {A} key new number from with_it all s keys numbered fresh more 
     (λ i. map (made number from (all ++ s ∷ [])) (begun-more number all s i))
     ∙ listed-more key new (number_begun number s.entry) (change_by with_it s.entry) (number s.section) (made number from all)
     (made number from (all ++ s ∷ [])) (numbers_begun number all)
-    (alone number with_it s.entry) (λ x. keeps key (with_it s.entry) (speaks s.entry) x (keys x))
+    (alone number with_it s.entry) (λ x. cond_both (speaks s.entry) (Some (with_it s.entry)) None (λ o. key (after_change o x) ≡ key x) (λ is. keys x) (λ is. refl))
     (λ n. numbered (filter (stands_in number n) all) n)
     (IsStrictlySorted-numbers (filter_map (λ z. number_begun number z.entry) all)) begun
     (λ n absent. ap (λ v. from v n) (rooted n absent) ∙ fresh n)
@@ -92,7 +83,7 @@ each_record-more {A} key new number from with_it all s keys numbered fresh more 
 fresh_part : (about : List PlacedEntry) (o : Option ℕ)
     → ((q : ℕ) → has_entry (λ m. m) q (parts_named about) ≡ false → filter (λ s. s.part == q) about ≡ []) → IsFresh about o
 fresh_part about None rooted = tt
-fresh_part about (Some q) rooted = λ absent. part_of-none about q (rooted q absent)
+fresh_part about (Some q) rooted = λ absent. ap (λ v. part_from v q) (rooted q absent)
 
 cue_some : (about : List PlacedEntry) (s : PlacedEntry) (n : ℕ) (b : Bool) → (b ≡ true → HasPart about s.part)
     → IsFresh about (part_named s.entry)
@@ -111,22 +102,6 @@ set_some about s g false = ap (λ v. group_from v g) (append-nil about)
 abbrev pub show_so_far : List PlacedEntry → Show
 show_so_far all = record (show_from all) { channels = fold max 1 (flat_map (λ s. channels_named s.entry) all) }
 
-channels-more : (all : List PlacedEntry) (s : PlacedEntry)
-    → fold max 1 (flat_map (λ z. channels_named z.entry) (all ++ s ∷ []))
-    ≡ fold max (fold max 1 (flat_map (λ z. channels_named z.entry) all)) (channels_named s.entry)
-channels-more all s =
-    ap (fold max 1) (flat_map-append (λ z. channels_named z.entry) all (s ∷ [])
-    ∙ ap (λ v. flat_map (λ z. channels_named z.entry) all ++ v) (append-nil (channels_named s.entry)))
-    ∙ fold-append max 1 (flat_map (λ z. channels_named z.entry) all) (channels_named s.entry)
-
-patch-more : (all : List PlacedEntry) (s : PlacedEntry)
-    → last_of_each (λ row. row.dimmer) (flat_map (λ z. rows_in z.entry) (all ++ s ∷ []))
-    ≡ all_placed (λ row. row.dimmer) (rows_in s.entry) (last_of_each (λ row. row.dimmer) (flat_map (λ z. rows_in z.entry) all))
-patch-more all s =
-    ap (last_of_each (λ row. row.dimmer)) (flat_map-append (λ z. rows_in z.entry) all (s ∷ [])
-    ∙ ap (λ v. flat_map (λ z. rows_in z.entry) all ++ v) (append-nil (rows_in s.entry)))
-    ∙ fold-append (λ ys x. placed (λ row. row.dimmer) x ys) [] (flat_map (λ z. rows_in z.entry) all) (rows_in s.entry)
-
 pub show-more : (all : List PlacedEntry) (s : PlacedEntry) → IsRooted all → IsBegun all s.section s.part
     → show_so_far (all ++ s ∷ []) ≡ show_with s (show_so_far all)
 show-more all s rooted begun =
@@ -139,14 +114,12 @@ show-more all s rooted begun =
     (λ n. refl) (λ n b is. set_some (filter (stands_in group_in n) all) s n b) rooted.groups begun.group in
     let subs = each_record-more (λ sub. sub.number) new_set sub_in sub_from set_with all s (λ x. refl) (λ about n. refl) (λ n. refl)
     (λ n b is. set_some (filter (stands_in sub_in n) all) s n b) rooted.subs begun.sub in
-    let channels = channels-more all s in
-    let patch = patch-more all s in
+    let channels = fold_flat-more max 1 (λ z. channels_named z.entry) all s in
+    let patch = fold_flat-more (λ ys x. placed (λ row. row.dimmer) x ys) [] (λ z. rows_in z.entry) all s in
     λ i. record { channels = channels i; cues = cues i; groups = groups i; subs = subs i; patch = patch i }
 
 -- the greatest of a number and others
-max-max : (a b c : ℕ) → max (max a b) c ≡ max a (max b c)
-max-max a b c = omega arith
-
 pub greatest-from : (a b : ℕ) (xs : List ℕ) → fold max (max a b) xs ≡ max a (fold max b xs)
 greatest-from a b [] = refl
-greatest-from a b (x ∷ xs) = ap (λ v. fold max v xs) (max-max a b x) ∙ greatest-from a (max b x) xs
+greatest-from a b (x ∷ xs) =
+    let same : max (max a b) x ≡ max a (max b x) = omega arith in ap (λ v. fold max v xs) same ∙ greatest-from a (max b x) xs

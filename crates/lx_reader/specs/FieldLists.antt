@@ -1,5 +1,5 @@
 -- The fields of a line, taken from the front of its tokens.
-use Rattle.std.specs.Prelude.{ℕ, ◌≡◌, ◌%◌, ◌==◌, Bool, Option, Some, None, Result, Ok, Err, List, [], ◌∷◌, ◌++◌, length, if◌then◌else◌}
+use Rattle.std.specs.Prelude.{ℕ, ◌≡◌, ◌<◌, ◌%◌, ◌==◌, IfOk, IfSome, MatchOption, MatchResult, Bool, Option, Some, None, Result, Ok, Err, List, [], ◌∷◌, ◌++◌, length, if◌then◌else◌}
 use Rattle.lx_base.specs.declared.TheConstants.{CHANNELS, DIMMERS}
 use Rattle.lx_spec.specs.declared.Bad.{Bad}
 use Rattle.lx_spec.specs.declared.Bad.TheVariants.{Shape, Range}
@@ -35,6 +35,16 @@ all_triples i tokens = if length tokens % 3 == 0 then triples desk_limits i toke
 abbrev pub onto : {A E : Type 0} → List A → Result (List A) E → Result (List A) E
 onto front (Ok more) = Ok (front ++ more)
 onto front (Err fault) = Err fault
+
+-- the first entry of a list was taken, none at its end; a fault is that of the whole list
+abbrev pub IsNext : {A : Type 0} → (List (List ℕ) → Result (List A) TextFault) → List (List ℕ) → List (List ℕ) → Result (Option A) TextFault
+    → Type 0
+IsNext list old new result =
+    MatchResult result (λ o. MatchOption o (old ≡ []) (λ x. list old ≡ onto (x ∷ []) (list new))) (λ fault. list old ≡ Err fault)
+
+-- so fewer tokens are left
+abbrev pub TakesSome : {A : Type 0} → List (List ℕ) → List (List ℕ) → Result (Option A) TextFault → Type 0
+TakesSome old new result = IfOk result (λ o. IfSome o (λ x. length new < length old))
 
 -- the number that comes next
 abbrev pub next_number : ℕ → (List ℕ → Result ℕ Bad) → List (List ℕ) → Result ℕ TextFault

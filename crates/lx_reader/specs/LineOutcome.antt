@@ -5,12 +5,14 @@ use Rattle.lx_spec.specs.declared.TextFault.{TextFault}
 use Rattle.lx_spec.specs.declared.Word.{Word}
 use Rattle.lx_spec.specs.declared.Word.TheVariants as words
 use Rattle.lx_spec.specs.Facts.{Facts}
-use Rattle.lx_spec.specs.Entry.{Entry, PlacedEntry, Skipped, is_end}
+use Rattle.lx_spec.specs.Show.{Show}
+use Rattle.lx_spec.specs.declared.Section.TheVariants.{NoRecord}
+use Rattle.lx_spec.specs.Entry.{Entry, Skipped, is_end}
 use Rattle.lx_reader.specs.declared.reader.Reader.{Reader}
 use Rattle.lx_reader.specs.declared.fault.ShowFault.{ShowFault}
 use Rattle.lx_reader.specs.LineFaults.{IsFaultOf}
 use Rattle.lx_reader.specs.OpenRecord.{IsOpen}
-use Rattle.lx_reader.specs.ReadingState.{ReadingState, state_after, placed_in, facts_in}
+use Rattle.lx_reader.specs.ReadingState.{ReadingState, state_after, facts_in}
 
 -- what the lines so far say
 abbrev pub state_of : Reader → ReadingState
@@ -24,13 +26,22 @@ state_of r = record {
   part = r.part;
 }
 
+-- a reader that has read nothing yet
+abbrev pub new_reader : Show → Reader
+new_reader show = record {
+  show = show;
+  channels_set = None;
+  skipped = 0;
+  first_skipped = 0;
+  identified = false;
+  section = NoRecord;
+  part = 1;
+  ended = false;
+}
+
 -- what the reader knows of line i, which is next
 abbrev pub facts_of : Reader → ℕ → Facts
 facts_of r i = facts_in (state_of r) i
-
--- an entry where the reader stands
-abbrev pub placed_at : Reader → Entry → PlacedEntry
-placed_at r entry = placed_in (state_of r) entry
 
 -- the reader can go on with line i
 pub record CanGoOn (r : Reader) (i : ℕ) : Type 0 where

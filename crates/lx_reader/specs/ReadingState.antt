@@ -13,7 +13,7 @@ use Rattle.lx_spec.specs.Show.{Cue, MemberSet, Show}
 use Rattle.lx_spec.specs.declared.Form.{Form}
 use Rattle.lx_spec.specs.declared.Section.{Section}
 use Rattle.lx_spec.specs.declared.Section.TheVariants.{NoRecord}
-use Rattle.lx_spec.specs.Entry.{Entry, Nothing, Skipped, Identifies, Begins, ClearsAll, HasChannels, Patches, HasLevels, HasUp, HasDown}
+use Rattle.lx_spec.specs.Entry.{Entry, Nothing, Skipped, Identifies, Begins, ClearsAll, HasChannels, Patches, HasUp, HasDown}
 use Rattle.lx_spec.specs.Entry.{NamesPart, Ends, PlacedEntry, section_begun, part_named, identifies, cue_in, group_in, sub_in}
 use Rattle.lx_spec.specs.Entry.{channels_set, rows_in, levels_in, follow_in, link_in, label_in, blocks, is_assert, is_skipped}
 use Rattle.lx_spec.specs.Entry.{clears_all}
@@ -140,10 +140,6 @@ show_with s show = record {
 abbrev pub with_rows : List PatchRow → Show → Show
 with_rows rows show =
     record show { channels = fold max show.channels (map (λ row. row.chan) rows); patch = all_placed (λ row. row.dimmer) rows show.patch }
-
--- the show with levels in a section, and in part p where it is a cue
-abbrev pub members_with_entry : Section → ℕ → List Member → Show → Show
-members_with_entry section p members show = show_with (record { section = section; part = p; entry = HasLevels members }) show
 
 -- The state of a reading. The show, whose channel count is the greatest channel that is named, or 1, and what SET CHANNELS says. How
 -- many lines were skipped, and the number of the first of them, or 0; whether an IDENT line was read, and the section and the open part.

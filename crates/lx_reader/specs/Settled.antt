@@ -11,6 +11,7 @@ use Rattle.lx_reader.specs.declared.open_record.Open.{Open}
 use Rattle.lx_reader.specs.declared.open_record.Open.TheVariants as open_records
 use Rattle.lx_reader.specs.declared.reader.Reader.{Reader}
 use Rattle.lx_reader.specs.declared.reading.ShowPass.{ShowPass}
+use Rattle.lx_reader.specs.LineOutcome.{CanGoOn}
 use Rattle.lx_reader.specs.OpenMoves.{members_of}
 
 -- a record is open
@@ -64,3 +65,15 @@ OpenFits show section moves (open_records.Sub sub) = (section ≡ InSub sub.numb
 
 abbrev pub PassFits : ShowPass → Type 0
 PassFits g = OpenFits g.reader.show g.reader.section g.moves g.held
+
+-- the pass can go on with line i
+pub record IsReady (g : ShowPass) (i : ℕ) : Type 0 where
+  pub ready : CanGoOn (settled g) i
+  pub fits : PassFits g
+
+-- so it can once IDENT was read, where no record is open
+pub record IsBetween (g : ShowPass) (i : ℕ) : Type 0 where
+  pub ready : CanGoOn g.reader i
+  pub identified : g.reader.identified ≡ true
+  pub none : g.held ≡ open_records.None
+  pub empty : g.moves ≡ []

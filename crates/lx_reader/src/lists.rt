@@ -1,12 +1,12 @@
 //! The lists of a line, pair by pair and triple by triple.
 
-ghost use Rattle.std.specs.Prelude.{◌≡◌, ◌∷◌, [], Ok, Err, ◌+◌, ◌<◌, ◌≤◌, length, min, IfOk, IfSome, MatchOption, MatchResult};
+ghost use Rattle.std.specs.Prelude.{◌≡◌, ◌∷◌, Ok, ◌+◌, ◌≤◌, min, IfSome, MatchOption};
 ghost use Rattle.lx_base.specs.declared.TheConstants.{CHANNELS};
 ghost use Rattle.lx_base.specs.Numbers.{percent as percent_level};
 ghost use Rattle.lx_spec.specs.Numerals.{read_level};
 ghost use Rattle.lx_lex.specs.Left.{left};
 ghost use Rattle.lx_lex.specs.PlainNumber.{FirstIsLevel, FirstIsNumber};
-ghost use Rattle.lx_reader.specs.FieldLists.{FirstIsMember, FirstIsRow, fault_in, all_pairs, all_triples, onto};
+ghost use Rattle.lx_reader.specs.FieldLists.{FirstIsMember, FirstIsRow, IsNext, TakesSome, fault_in, all_pairs, all_triples};
 
 use crate::numbers::token_fault;
 use crate::percents::PERCENTS;
@@ -47,28 +47,8 @@ pub(crate) fn guess_behind(chan: Chan) -> Chan
     }
 }
 
-/// The next channel and level of a list of pairs; none at its end. A fault is that of the whole list. The channel is first looked for
-/// as the one that is guessed.
-#[inline(always)]
-pub(crate) fn next_member(
-    i: u32,
-    guess: Chan,
-    tokens: &mut Tokens,
-) -> Result<Option<Member>, TextFault>
-    ensures fewer { IfOk result (λ o. IfSome o (λ m. length (left tokens.new) < length (left tokens.old))) }
-    ensures list { MatchResult result
-        (λ o. MatchOption o (left tokens.old ≡ [])
-        (λ m. all_pairs i (left tokens.old) ≡ onto (m ∷ []) (all_pairs i (left tokens.new))))
-        (λ fault. all_pairs i (left tokens.old) ≡ Err fault) }
-{
-    match near_member(guess, tokens) {
-        Some(member) => Ok(Some(member)),
-        None => far_member(i, tokens),
-    }
-}
-
 /// The next channel and level where `@` and a space end them and nothing else stands before them, as in most lists, and
-/// both are within their ranges. Else no token is taken. The guess is as for `next_member`.
+/// both are within their ranges. Else no token is taken. The channel is first looked for as the one that is guessed.
 #[inline(always)]
 pub(crate) fn near_member(guess: Chan, tokens: &mut Tokens) -> Option<Member>
     ensures { MatchOption result (tokens.new ≡ tokens.old) (λ m. FirstIsMember (left tokens.old) m (left tokens.new)) }
@@ -106,14 +86,11 @@ fn near_level(tokens: &mut Tokens) -> Option<Level>
     plain_level(tokens.take_last_number()?)
 }
 
-/// The same as `next_member`, where the tokens stand in another way.
+/// The next channel and level of a list of pairs, where the tokens stand in another way; none at its end. A fault is that of the whole list.
 #[inline(never)]
 pub(crate) fn far_member(i: u32, tokens: &mut Tokens) -> Result<Option<Member>, TextFault>
-    ensures fewer { IfOk result (λ o. IfSome o (λ m. length (left tokens.new) < length (left tokens.old))) }
-    ensures list { MatchResult result
-        (λ o. MatchOption o (left tokens.old ≡ [])
-        (λ m. all_pairs i (left tokens.old) ≡ onto (m ∷ []) (all_pairs i (left tokens.new))))
-        (λ fault. all_pairs i (left tokens.old) ≡ Err fault) }
+    ensures fewer { TakesSome (left tokens.old) (left tokens.new) result }
+    ensures list { IsNext (all_pairs i) (left tokens.old) (left tokens.new) result }
 {
     if tokens.is_at_end() {
         return Ok(None);
@@ -196,13 +173,10 @@ fn plain_level(percent: u32) -> Option<Level>
     }
 }
 
-/// The same as `next_member`, in whatever form the tokens are.
+/// The same, in whatever form the tokens are.
 fn any_member(i: u32, tokens: &mut Tokens) -> Result<Option<Member>, TextFault>
-    ensures fewer { IfOk result (λ o. IfSome o (λ m. length (left tokens.new) < length (left tokens.old))) }
-    ensures list { MatchResult result
-        (λ o. MatchOption o (left tokens.old ≡ [])
-        (λ m. all_pairs i (left tokens.old) ≡ onto (m ∷ []) (all_pairs i (left tokens.new))))
-        (λ fault. all_pairs i (left tokens.old) ≡ Err fault) }
+    ensures fewer { TakesSome (left tokens.old) (left tokens.new) result }
+    ensures list { IsNext (all_pairs i) (left tokens.old) (left tokens.new) result }
 {
     let Some(first) = tokens.next() else {
         return Ok(None);
@@ -223,11 +197,8 @@ fn any_member(i: u32, tokens: &mut Tokens) -> Result<Option<Member>, TextFault>
 /// The next channel, dimmer and level of a list of triples; none at its end. A fault is that of the whole list.
 #[inline(always)]
 pub(crate) fn next_row(i: u32, tokens: &mut Tokens) -> Result<Option<PatchRow>, TextFault>
-    ensures fewer { IfOk result (λ o. IfSome o (λ row. length (left tokens.new) < length (left tokens.old))) }
-    ensures list { MatchResult result
-        (λ o. MatchOption o (left tokens.old ≡ [])
-        (λ row. all_triples i (left tokens.old) ≡ onto (row ∷ []) (all_triples i (left tokens.new))))
-        (λ fault. all_triples i (left tokens.old) ≡ Err fault) }
+    ensures fewer { TakesSome (left tokens.old) (left tokens.new) result }
+    ensures list { IsNext (all_triples i) (left tokens.old) (left tokens.new) result }
 {
     match near_row(tokens) {
         Some(row) => Ok(Some(row)),
@@ -256,11 +227,8 @@ fn near_row(tokens: &mut Tokens) -> Option<PatchRow>
 /// The same as `next_row`, where the tokens stand in another way.
 #[inline(never)]
 fn far_row(i: u32, tokens: &mut Tokens) -> Result<Option<PatchRow>, TextFault>
-    ensures fewer { IfOk result (λ o. IfSome o (λ row. length (left tokens.new) < length (left tokens.old))) }
-    ensures list { MatchResult result
-        (λ o. MatchOption o (left tokens.old ≡ [])
-        (λ row. all_triples i (left tokens.old) ≡ onto (row ∷ []) (all_triples i (left tokens.new))))
-        (λ fault. all_triples i (left tokens.old) ≡ Err fault) }
+    ensures fewer { TakesSome (left tokens.old) (left tokens.new) result }
+    ensures list { IsNext (all_triples i) (left tokens.old) (left tokens.new) result }
 {
     if tokens.is_at_end() {
         return Ok(None);
@@ -291,11 +259,8 @@ fn plain_row(tokens: &mut Tokens) -> Option<PatchRow>
 
 /// The same as `next_row`, in whatever form the tokens are.
 fn any_row(i: u32, tokens: &mut Tokens) -> Result<Option<PatchRow>, TextFault>
-    ensures fewer { IfOk result (λ o. IfSome o (λ row. length (left tokens.new) < length (left tokens.old))) }
-    ensures list { MatchResult result
-        (λ o. MatchOption o (left tokens.old ≡ [])
-        (λ row. all_triples i (left tokens.old) ≡ onto (row ∷ []) (all_triples i (left tokens.new))))
-        (λ fault. all_triples i (left tokens.old) ≡ Err fault) }
+    ensures fewer { TakesSome (left tokens.old) (left tokens.new) result }
+    ensures list { IsNext (all_triples i) (left tokens.old) (left tokens.new) result }
 {
     let Some(first) = tokens.next() else {
         return Ok(None);

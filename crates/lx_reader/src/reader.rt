@@ -1,7 +1,7 @@
 //! What the lines so far say, and what is known of the next one.
 
-ghost use Rattle.std.specs.Prelude.{◌≡◌, ◌==◌, ◌<◌, ◌+◌, None, false, true, if◌then◌else◌};
-ghost use Rattle.lx_spec.specs.declared.Section.TheVariants.{NoRecord};
+ghost use Rattle.std.specs.Prelude.{◌≡◌, ◌==◌, ◌<◌, ◌+◌, if◌then◌else◌};
+ghost use Rattle.lx_reader.specs.LineOutcome.{new_reader};
 
 use lx_base::{Chan, PartNo};
 use lx_show::Show;
@@ -31,11 +31,7 @@ pub(crate) struct Reader {
 impl Reader {
     /// Nothing was read yet.
     pub(crate) fn new(show: Show) -> Reader
-        ensures show { result.show ≡ show }
-        ensures channels_set { result.channels_set ≡ None }
-        ensures skipped { (result.skipped ≡ 0) × (result.first_skipped ≡ 0) }
-        ensures facts { (result.identified ≡ false) × (result.section ≡ NoRecord) × (result.part ≡ 1) }
-        ensures ended { result.ended ≡ false }
+        ensures { result ≡ new_reader show }
     {
         Reader {
             show,

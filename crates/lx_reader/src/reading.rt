@@ -13,9 +13,9 @@ ghost use Rattle.lx_spec.specs.LineRules.{entry_by_word, entry_of, inner_entry, 
 ghost use Rattle.lx_spec.specs.Text.{tokens};
 ghost use Rattle.lx_lex.specs.Left.{left};
 ghost use Rattle.lx_reader.specs.declared.open_record.Open.TheVariants as open_records;
-ghost use Rattle.lx_reader.specs.LineOutcome.{CanGoOn, Outcome, Said, facts_of, is_known, is_outer};
+ghost use Rattle.lx_reader.specs.LineOutcome.{CanGoOn, Outcome, Said, facts_of, is_known, is_outer, new_reader};
 ghost use Rattle.lx_reader.specs.LineOfCue.{is_levels};
-ghost use Rattle.lx_reader.specs.Settled.{PassFits, is_open, is_record, settled};
+ghost use Rattle.lx_reader.specs.Settled.{IsBetween, IsReady, PassFits, is_open, is_record, settled};
 
 use crate::fault::ShowFault;
 use crate::numbers::{cue_of_record, group_of_record, sub_of_record};
@@ -45,11 +45,7 @@ pub(crate) struct ShowPass {
 impl ShowPass {
     /// Nothing was read yet.
     pub(crate) fn new(alloc: Global, show: Show) -> ShowPass
-        ensures show { (settled result).show ≡ show }
-        ensures channels_set { (settled result).channels_set ≡ None }
-        ensures skipped { ((settled result).skipped ≡ 0) × ((settled result).first_skipped ≡ 0) }
-        ensures facts { ((settled result).identified ≡ false) × ((settled result).section ≡ NoRecord) × ((settled result).part ≡ 1) }
-        ensures ended { (settled result).ended ≡ false }
+        ensures reader { settled result ≡ new_reader show }
         ensures fits { PassFits result }
     {
         ShowPass {
@@ -98,8 +94,7 @@ impl ShowPass {
         line: &[u8],
     ) -> Result<(), ShowFault>
         requires short { length line.now ≤ LINE_BYTES }
-        requires ready { CanGoOn (settled self.old) i }
-        requires fits { PassFits self.old }
+        requires pass { IsReady self.old i }
         ensures outcome { Outcome (settled self.old) (settled self.new) i result (entry_of (facts_of (settled self.old) i) line.now) }
         ensures fits { OnOk result (PassFits self.new) }
         ensures cause { HasCauseOf ShowFault.Memory (H.refusals heap.old) (H.refusals heap.new) result }
@@ -122,8 +117,7 @@ impl ShowPass {
     #[inline(never)]
     fn line_by_word<H: Heap>(&mut self, heap: &mut H, i: u32, line: &[u8]) -> Result<(), ShowFault>
         requires short { length line.now ≤ LINE_BYTES }
-        requires ready { CanGoOn (settled self.old) i }
-        requires fits { PassFits self.old }
+        requires pass { IsReady self.old i }
         ensures outcome { Outcome (settled self.old) (settled self.new) i result (entry_of (facts_of (settled self.old) i) line.now) }
         ensures fits { OnOk result (PassFits self.new) }
         ensures cause { HasCauseOf ShowFault.Memory (H.refusals heap.old) (H.refusals heap.new) result }
@@ -143,8 +137,7 @@ impl ShowPass {
         word: Word,
         tokens: Tokens,
     ) -> Result<(), ShowFault>
-        requires ready { CanGoOn (settled self.old) i }
-        requires fits { PassFits self.old }
+        requires { IsReady self.old i }
         ensures outcome { Outcome (settled self.old) (settled self.new) i result
             (entry_by_word (facts_of (settled self.old) i) line.now word (left tokens.entry)) }
         ensures fits { OnOk result (PassFits self.new) }
@@ -167,8 +160,7 @@ impl ShowPass {
 
     /// `ENDDATA`
     fn end_line(&mut self, i: u32) -> Result<(), ShowFault>
-        requires ready { CanGoOn (settled self.old) i }
-        requires fits { PassFits self.old }
+        requires { IsReady self.old i }
         ensures outcome { Outcome (settled self.old) (settled self.new) i result
             (entry_by_word (facts_of (settled self.old) i) [] words.EndData []) }
         ensures fits { OnOk result (PassFits self.new) }
@@ -189,8 +181,7 @@ impl ShowPass {
         word: Word,
         tokens: Tokens,
     ) -> Result<(), ShowFault>
-        requires ready { CanGoOn (settled self.old) i }
-        requires fits { PassFits self.old }
+        requires pass { IsReady self.old i }
         requires outer { is_outer word ≡ true }
         ensures outcome { Outcome (settled self.old) (settled self.new) i result
             (entry_by_word (facts_of (settled self.old) i) [] word (left tokens.entry)) }
@@ -241,10 +232,7 @@ impl ShowPass {
         word: Word,
         tokens: Tokens,
     ) -> Result<(), ShowFault>
-        requires ready { CanGoOn self.old.reader i }
-        requires identified { self.old.reader.identified ≡ true }
-        requires none { self.old.held ≡ open_records.None }
-        requires empty { self.old.moves ≡ [] }
+        requires between { IsBetween self.old i }
         requires known { is_known word ≡ true }
         ensures outcome { Outcome self.old.reader (settled self.new) i result
             (entry_by_word (facts_of self.old.reader i) [] word (left tokens.entry)) }
@@ -267,10 +255,7 @@ impl ShowPass {
 
     /// `CUE n`
     fn cue_line<H: Heap>(&mut self, heap: &mut H, i: u32, tokens: Tokens) -> Result<(), ShowFault>
-        requires ready { CanGoOn self.old.reader i }
-        requires identified { self.old.reader.identified ≡ true }
-        requires none { self.old.held ≡ open_records.None }
-        requires empty { self.old.moves ≡ [] }
+        requires { IsBetween self.old i }
         ensures outcome { Outcome self.old.reader (settled self.new) i result
             (entry_by_word (facts_of self.old.reader i) [] words.Cue (left tokens.entry)) }
         ensures fits { OnOk result (PassFits self.new) }
@@ -290,10 +275,7 @@ impl ShowPass {
 
     /// `GROUP n`
     fn group_line<H: Heap>(&mut self, heap: &mut H, i: u32, tokens: Tokens) -> Result<(), ShowFault>
-        requires ready { CanGoOn self.old.reader i }
-        requires identified { self.old.reader.identified ≡ true }
-        requires none { self.old.held ≡ open_records.None }
-        requires empty { self.old.moves ≡ [] }
+        requires { IsBetween self.old i }
         ensures outcome { Outcome self.old.reader (settled self.new) i result
             (entry_by_word (facts_of self.old.reader i) [] words.Group (left tokens.entry)) }
         ensures fits { OnOk result (PassFits self.new) }
@@ -310,10 +292,7 @@ impl ShowPass {
 
     /// `SUB n`
     fn sub_line<H: Heap>(&mut self, heap: &mut H, i: u32, tokens: Tokens) -> Result<(), ShowFault>
-        requires ready { CanGoOn self.old.reader i }
-        requires identified { self.old.reader.identified ≡ true }
-        requires none { self.old.held ≡ open_records.None }
-        requires empty { self.old.moves ≡ [] }
+        requires { IsBetween self.old i }
         ensures outcome { Outcome self.old.reader (settled self.new) i result
             (entry_by_word (facts_of self.old.reader i) [] words.Sub (left tokens.entry)) }
         ensures fits { OnOk result (PassFits self.new) }
@@ -337,8 +316,7 @@ impl ShowPass {
         word: Word,
         tokens: Tokens,
     ) -> Result<(), ShowFault>
-        requires ready { CanGoOn (settled self.old) i }
-        requires fits { PassFits self.old }
+        requires pass { IsReady self.old i }
         requires inner { is_inner word ≡ true }
         ensures outcome { Outcome (settled self.old) (settled self.new) i result
             (entry_by_word (facts_of (settled self.old) i) line.now word (left tokens.entry)) }
@@ -364,8 +342,7 @@ impl ShowPass {
 
     /// Such a line outside of any record.
     fn stray_line(&mut self, i: u32, word: Word) -> Result<(), ShowFault>
-        requires ready { CanGoOn (settled self.old) i }
-        requires fits { PassFits self.old }
+        requires pass { IsReady self.old i }
         requires outside { self.old.reader.section ≡ NoRecord }
         ensures outcome { Outcome (settled self.old) (settled self.new) i result (stray_entry (facts_of (settled self.old) i) word) }
         ensures fits { OnOk result (PassFits self.new) }
@@ -389,8 +366,7 @@ impl ShowPass {
         word: Word,
         tokens: Tokens,
     ) -> Result<(), ShowFault>
-        requires ready { CanGoOn (settled self.old) i }
-        requires fits { PassFits self.old }
+        requires pass { IsReady self.old i }
         requires inside { is_record self.old.reader.section ≡ true }
         ensures outcome { Outcome (settled self.old) (settled self.new) i result
             (inner_entry self.old.reader.section (facts_of (settled self.old) i) line.now word (left tokens.entry)) }
@@ -408,8 +384,7 @@ impl ShowPass {
 
     /// What the line says goes to the open record. It answers whether it says something.
     fn says(&mut self, i: u32, line: &[u8], word: Word, tokens: Tokens) -> Result<bool, TextFault>
-        requires ready { CanGoOn (settled self.old) i }
-        requires fits { PassFits self.old }
+        requires pass { IsReady self.old i }
         requires inside { is_record self.old.reader.section ≡ true }
         requires other { is_levels word ≡ false }
         ensures said { Said (settled self.old) (settled self.new) i result
@@ -432,8 +407,7 @@ impl ShowPass {
         i: u32,
         tokens: Tokens,
     ) -> Result<(), ShowFault>
-        requires ready { CanGoOn (settled self.old) i }
-        requires fits { PassFits self.old }
+        requires pass { IsReady self.old i }
         requires open_one { is_open self.old.held ≡ true }
         ensures outcome { Outcome (settled self.old) (settled self.new) i result (levels desk_limits i (left tokens.entry)) }
         ensures fits { OnOk result (PassFits self.new) }

@@ -1,6 +1,6 @@
-use Rattle.lx_reader.proofs.Imports.{subst, sym, IsOkAnd, left, HasUp, HasDown, cue_entry, ChangesCue, CueSays, facts_at}
+use Rattle.lx_reader.proofs.Imports.{subst, sym, IsOkAnd, left, HasUp, HasDown, cue_entry, ChangesCue, CueSays, facts_at, refl}
 use Rattle.lx_reader.proofs.LineSteps.{times_fault}
-use Rattle.lx_reader.proofs.OpenSteps.{cue_stops, down_says, up_says}
+use Rattle.lx_reader.proofs.OpenSteps.{cue_stops, times_say}
 use Rattle.lx_reader.proofs.record_lines.line_of_cue.Goals as goal
 
 pub returns-in_err-time-in-Up : goal.returns-in_err-time-in-Up
@@ -24,13 +24,13 @@ returns-in_ok-time-in-Up c =
     let e = c.in_ok-time-in-Up.ensures in
     subst (λ w. IsOkAnd (cue_entry (facts_at c.args.i) c.args.line.now w (left c.args.tokens)) (ChangesCue c.args.cue.now c.set_up.new.cue
     c.args.part.now c.args.part.now)) (sym c.in-Up.is)
-    (up_says c.args.i (left c.args.tokens) (c.in_ok-time-in-Up.time, c.in_ok-time-in-Up.delay) c.args.cue.now c.set_up.new.cue c.args.part.now
-    e.numbers c.set_up.ensures e.times)
+    (times_say (λ t d. HasUp t d) c.args.i (left c.args.tokens) (c.in_ok-time-in-Up.time, c.in_ok-time-in-Up.delay) c.args.cue.now c.set_up.new.cue
+    c.args.part.now e.numbers (record { own = refl; cue = c.set_up.ensures; part = refl; ranges = e.times }))
 
 pub returns-in_ok-time-in-Down : goal.returns-in_ok-time-in-Down
 returns-in_ok-time-in-Down c =
     let e = c.in_ok-time-in-Down.ensures in
     subst (λ w. IsOkAnd (cue_entry (facts_at c.args.i) c.args.line.now w (left c.args.tokens)) (ChangesCue c.args.cue.now c.set_down.new.cue
     c.args.part.now c.args.part.now)) (sym c.in-Down.is)
-    (down_says c.args.i (left c.args.tokens) (c.in_ok-time-in-Down.time, c.in_ok-time-in-Down.delay) c.args.cue.now c.set_down.new.cue c.args.part.now
-    e.numbers c.set_down.ensures e.times)
+    (times_say (λ t d. HasDown t d) c.args.i (left c.args.tokens) (c.in_ok-time-in-Down.time, c.in_ok-time-in-Down.delay) c.args.cue.now c.set_down.new.cue
+    c.args.part.now e.numbers (record { own = refl; cue = c.set_down.ensures; part = refl; ranges = e.times }))

@@ -22,7 +22,7 @@ returns-clause-outcome g c =
     (λ n. ReadsLevels c.args.i g.reader.part n (left c.args.tokens) [] c.in_ok-greatest.greatest g.moves c.put_line.new.self)
     c.channels-channels.ensures.channels c.in_ok-greatest.ensures.levels in
     levels_outcome g.reader g.moves c.put_line.new.self c.args.i c.in_ok-greatest.greatest (left c.args.tokens) read g.held c.widen.new.self
-    c.widen.ensures c.requires.open_one c.requires.ready.going c.requires.fits
+    c.widen.ensures c.requires.open_one c.requires.pass.ready.going c.requires.pass.fits
 
 pub returns-clause-fits : goal.returns-clause-fits
 returns-clause-fits g c =
@@ -31,4 +31,4 @@ returns-clause-fits g c =
     (λ n. ReadsLevels c.args.i g.reader.part n (left c.args.tokens) [] c.in_ok-greatest.greatest g.moves c.put_line.new.self)
     c.channels-channels.ensures.channels c.in_ok-greatest.ensures.levels in
     still_fits g.reader g.moves c.put_line.new.self c.args.i c.in_ok-greatest.greatest (left c.args.tokens) read g.held c.widen.new.self
-    c.widen.ensures c.requires.open_one c.requires.ready.open_section c.requires.fits
+    c.widen.ensures c.requires.open_one c.requires.pass.ready.open_section c.requires.pass.fits
