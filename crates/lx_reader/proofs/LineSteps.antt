@@ -1,19 +1,14 @@
 -- What one line makes of the reader.
 use Rattle.lx_reader.proofs.Imports.{◌≡◌, ℕ, ◌+◌, length, Bool, true, false, cond, List, [], ◌∷◌, map, Option, Some, None, Result, Ok, Err, refl, ap}
-use Rattle.lx_reader.proofs.Imports.{◌∙◌, sym, subst, ◌||◌, ◌==◌, not, nat_lt, IfOk, IfErr, OnOk, is_ok, is_some, list_any, IsOkAnd, IsErrAnd, CUES}
-use Rattle.lx_reader.proofs.Imports.{entry_at, has_entry, TextFault, NoIdent, OutOfRange, PatchRow, read_time, read_whole, ◌>>=◌, IsTime, Cue, Show}
-use Rattle.lx_reader.proofs.Imports.{Section, NoRecord, InCue, Skipping, Entry, Skipped, Begins, Patches, times, number, delay_at, is_page_one}
-use Rattle.lx_reader.proofs.Imports.{record_entry, if_few, entry_by_word, Reader, ShowFault, all_triples, next_times, record_number, facts_of}
-use Rattle.lx_reader.proofs.Imports.{state_of, IsStep, Outcome, with_rows, placed_in, show_with, tokens, length-map}
+use Rattle.lx_reader.proofs.Imports.{◌∙◌, sym, subst, ◌||◌, ◌==◌, not, nat_lt, IfErr, OnOk, is_ok, is_some, list_any, IsOkAnd, IsErrAnd, CUES}
+use Rattle.lx_reader.proofs.Imports.{entry_at, has_entry, TextFault, NoIdent, OutOfRange, PatchRow, read_time, read_whole, ◌>>=◌, Cue, Show, Section}
+use Rattle.lx_reader.proofs.Imports.{NoRecord, InCue, Skipping, Entry, Skipped, Begins, Patches, times, number, delay_at, is_page_one, record_entry}
+use Rattle.lx_reader.proofs.Imports.{if_few, entry_by_word, Reader, ShowFault, all_triples, next_times, record_number, facts_of, state_of, IsStep}
+use Rattle.lx_reader.proofs.Imports.{Outcome, with_rows, placed_in, show_with, tokens, length-map}
 use Rattle.lx_spec.specs.declared.Bad.{Bad}
 use Rattle.lx_spec.specs.declared.Word.TheVariants as words
-use Rattle.lx_spec.proofs.ValidLines.{time_in_range}
 use Rattle.lx_reader.specs.declared.fault.ShowFault.TheVariants as faults
 use Rattle.lx_reader.specs.LineFaults.{IsFaultOf}
-
--- a time that was read is within the limit
-pub time_within : (r : Result ℕ Bad) (t : ℕ) (token : List ℕ) → r ≡ read_time token → r ≡ Ok t → IsTime t
-time_within r t token is ok = subst (λ v. IfOk v IsTime) (sym is ∙ ok) (time_in_range token)
 
 -- a fault ends the reading
 pub stops : (old new : Reader) (i : ℕ) (r : Result (Unit {0}) ShowFault) (entry : Result Entry TextFault) (fault : TextFault)

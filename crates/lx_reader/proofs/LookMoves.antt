@@ -1,7 +1,7 @@
 -- The moves of a look, channel by channel, and the cues whose looks become moves, from the last one on.
 use Rattle.lx_reader.proofs.Imports.{◌≡◌, ℕ, suc, zero, ◌+◌, ◌<◌, ◌≤◌, Bool, true, false, cond, List, [], ◌∷◌, ◌++◌, map, length, take, drop, get_or}
 use Rattle.lx_reader.proofs.Imports.{Option, Some, None, refl, ap, ◌∙◌, sym, subst, arith, add-one, append-nil, append_assoc, IsTrue, filter, is_some}
-use Rattle.lx_reader.proofs.Imports.{not, ◌==◌, ◌-◌, IfSome, option_map_or, IsSomeAnd, AllByRecursion, range_with_len, take-append_seam, map-append}
+use Rattle.lx_reader.proofs.Imports.{each, not, ◌==◌, ◌-◌, IfSome, option_map_or, IsSomeAnd, AllByRecursion, range_with_len, take-append_seam, map-append}
 use Rattle.lx_reader.proofs.Imports.{filter-append, Move, Part, from_looks, IsStrictlySorted, placed, has_entry, entry_at, entries_below}
 use Rattle.lx_reader.proofs.Imports.{entries_above, Cue, Show, InRange, ValidMove, ValidCue, Valid, cue_of, move_in, level_in, changed, kept_by}
 use Rattle.lx_reader.proofs.Imports.{find_has, seam, goes_between, stands_between, all_at_seam, below_seam, above_seam, All-placed}
@@ -12,10 +12,6 @@ all_map : {A B : Type 0} (P : A → Type 0) (Q : B → Type 0) (f : A → B) (xs
     → AllByRecursion Q (map f xs)
 all_map P Q f [] each all = tt
 all_map P Q f (x ∷ xs) each all = (each x all.0, all_map P Q f xs each all.1)
-
-range_below : (a n top : ℕ) → a + n ≤ top → AllByRecursion (λ k. k < top) (range_with_len a n)
-range_below a zero top within = tt
-range_below a (suc n) top within = (omega arith, range_below (a + 1) n top (omega arith))
 
 range_in : (a n top : ℕ) → 1 ≤ a → a + n ≤ top + 1 → AllByRecursion (InRange top) (range_with_len a n)
 range_in a zero top least within = tt
@@ -41,7 +37,7 @@ one_more : (before : ℕ → ℕ) (cue : Cue) (n : ℕ) (b : Bool)
 one_more before cue n true =
     placed_last (λ m. m.chan) (look_move cue (suc n)) (moves_up_to before cue n)
     (all_map (λ c. c < suc n) (λ m. m.chan < suc n) (look_move cue) (filter (look_changes before cue) (range_with_len 1 n)) (λ c h. h)
-    (kept_by (λ c. c < suc n) (look_changes before cue) (range_with_len 1 n) (range_below 1 n (suc n) (omega arith))))
+    (kept_by (λ c. c < suc n) (look_changes before cue) (range_with_len 1 n) (each _ _ _ (λ c h. omega (arith, h.most)) (range_in 1 n n (omega arith) (omega arith)))))
 one_more before cue n false = sym (append-nil (moves_up_to before cue n))
 
 moves_suc : (before : ℕ → ℕ) (cue : Cue) (n : ℕ)

@@ -1,5 +1,6 @@
-use Rattle.lx_reader.proofs.LineSteps.{time_within}
+use Rattle.lx_reader.proofs.Imports.{◌∙◌, sym, subst, IfOk, IsTime}
+use Rattle.lx_spec.proofs.ValidLines.{time_in_range}
 use Rattle.lx_reader.proofs.numbers.time_at.Goals as goal
 
 pub returns-in-Ok-clause-time : goal.returns-in-Ok-clause-time
-returns-in-Ok-clause-time c = time_within c.read_time.result c.in-Ok.time c.args.token.now c.read_time.ensures c.in-Ok.is
+returns-in-Ok-clause-time c = subst (λ v. IfOk v IsTime) (sym c.read_time.ensures ∙ c.in-Ok.is) (time_in_range c.args.token.now)
