@@ -17,16 +17,6 @@ pub struct CueDesk {
 }
 
 impl CueDesk {
-    /// A closed desk.
-    pub(crate) fn closed() -> CueDesk
-        ensures { result.handle.held ≡ None }
-    {
-        CueDesk {
-            handle: Handle::none(),
-            is_open: false,
-        }
-    }
-
     /// Whether it is open.
     pub(crate) fn is_open(&self) -> bool
         ensures { result ≡ is_some self.now.handle.held }
@@ -59,7 +49,11 @@ impl CueDesk {
         ensures held { self.old.handle.held ≡ Some result.value }
         ensures closed { self.new.handle.held ≡ None }
     {
-        let old = std::mem::replace(self, CueDesk::closed());
+        let closed = CueDesk {
+            handle: Handle::none(),
+            is_open: false,
+        };
+        let old = std::mem::replace(self, closed);
         old.handle.into_parts(alloc).into_box()
     }
 }

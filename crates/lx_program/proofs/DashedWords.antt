@@ -13,9 +13,10 @@ HasDash ws = list_any begins_with_dash ws ≡ true
 is_dash : (x : ℕ) → (x == 45) ≡ true → x ≡ 45
 is_dash x e = grind (arith, nat_tests, e)
 
-isnt : (w : List ℕ) (k : ℕ) (ks : List ℕ) → begins_with_dash w ≡ true → (45 == k) ≡ false → bytes_eq w (k ∷ ks) ≡ false
-isnt [] k ks e other = absurd cc
-isnt (x ∷ xs) k ks e other = ap (λ y. (y == k) && bytes_eq xs ks) (is_dash x e) ∙ ap (λ b. b && bytes_eq xs ks) other
+isnt : (w name : List ℕ) → begins_with_dash w ≡ true → begins_with_dash name ≡ false → bytes_eq w name ≡ false
+isnt [] name e other = absurd cc
+isnt (x ∷ xs) [] e other = refl
+isnt (x ∷ xs) (k ∷ ks) e other = let differs : (x == k) ≡ false = grind (arith, nat_tests, e, other) in ap (λ b. b && bytes_eq xs ks) differs
 
 no_number : (most : ℕ) (w : List ℕ) → begins_with_dash w ≡ true → plain_number most w ≡ None
 no_number most [] e = absurd cc
@@ -33,18 +34,20 @@ first_or_more P w ws e first more = go (begins_with_dash w) refl
     go true is = first is
     go false is = more (ap (λ b. b || list_any begins_with_dash ws) (sym is) ∙ e)
 
-skip : (b : Bool) (x y : Option Job) → b ≡ false → y ≡ None → (if b then x else y) ≡ None
-skip b x y not_so none = ap (λ t. if t then x else y) not_so ∙ none
+either : {A : Type 0} (b : Bool) (x y : Option A) → x ≡ None → y ≡ None → (if b then x else y) ≡ None
+either true x y none none' = none
+either false x y none none' = none'
 
-neither : {A : Type 0} (b : Bool) (x y : Option A) → x ≡ None → y ≡ None → (if b then x else y) ≡ None
-neither true x y none none' = none
-neither false x y none none' = none'
+-- where the word is this name, which has no dash, a later one has it
+if_named : {A : Type 0} (w : List ℕ) (ws : List (List ℕ)) (name : List ℕ) (x y : Option A) → HasDash (w ∷ ws) → begins_with_dash name ≡ false
+    → (HasDash ws → x ≡ None) → y ≡ None → (if bytes_eq w name then x else y) ≡ None
+if_named w ws name x y e other more none = first_or_more ((if bytes_eq w name then x else y) ≡ None) w ws e
+    (λ first. ap (λ t. if t then x else y) (isnt w name first other) ∙ none)
+    (λ later. either (bytes_eq w name) x y (more later) none)
 
 no_form : (ws : List (List ℕ)) → HasDash ws → form_of ws ≡ None
 no_form [] e = absurd cc
-no_form (w ∷ ws) e = first_or_more (form_of (w ∷ ws) ≡ None) w ws e
-    (λ first. ap (λ t. if t then ended ws States else None) (isnt w 115 _ first refl))
-    (λ more. neither (bytes_eq w (codes "states")) _ None (more_words ws States more) refl)
+no_form (w ∷ ws) e = if_named w ws (codes "states") _ None e refl (more_words ws States) refl
 
 after_number : {A : Type 0} (o : Option ℕ) (f : ℕ → Option A) → ((n : ℕ) → f n ≡ None) → option_and_then f o ≡ None
 after_number None f none = refl
@@ -64,22 +67,12 @@ no_counted most job (w ∷ ws) e = first_or_more (counted_job most job (w ∷ ws
 
 pub no_job : (ws : List (List ℕ)) → HasDash ws → job_of ws ≡ None
 no_job [] e = absurd cc
-no_job (w ∷ ws) e = first_or_more (job_of (w ∷ ws) ≡ None) w ws e
-    (λ first.
-    skip (bytes_eq w (codes "check")) _ _ (isnt w 99 _ first refl)
-    (skip (bytes_eq w (codes "render")) _ _ (isnt w 114 _ first refl)
-    (skip (bytes_eq w (codes "sheet")) _ _ (isnt w 115 _ first refl)
-    (skip (bytes_eq w (codes "make")) _ _ (isnt w 109 _ first refl)
-    (skip (bytes_eq w (codes "run")) _ _ (isnt w 114 _ first refl)
-    (skip (bytes_eq w (codes "undo")) _ _ (isnt w 117 _ first refl)
-    (skip (bytes_eq w (codes "two")) _ _ (isnt w 116 _ first refl)
-    (skip (bytes_eq w (codes "crew")) _ None (isnt w 99 _ first refl) refl))))))))
-    (λ more.
-    neither (bytes_eq w (codes "check")) _ _ (ap (option_map Check) (no_form ws more))
-    (neither (bytes_eq w (codes "render")) _ _ (ap (option_map (Script Render)) (no_form ws more))
-    (neither (bytes_eq w (codes "sheet")) _ _ (ap (option_map Sheet) (no_form ws more))
-    (neither (bytes_eq w (codes "make")) _ _ (ap (option_map Make) (no_alone CUES ws more))
-    (neither (bytes_eq w (codes "run")) _ _ (no_counted UNIVERSES (λ universes. Script (Live universes)) ws more)
-    (neither (bytes_eq w (codes "undo")) _ _ (ap (option_map (Script Undo)) (no_form ws more))
-    (neither (bytes_eq w (codes "two")) _ _ (ap (option_map (Script Two)) (no_form ws more))
-    (neither (bytes_eq w (codes "crew")) _ None (no_counted OPERATORS Crew ws more) refl))))))))
+no_job (w ∷ ws) e =
+    if_named w ws (codes "check") _ _ e refl (λ more. ap (option_map Check) (no_form ws more))
+    (if_named w ws (codes "render") _ _ e refl (λ more. ap (option_map (Script Render)) (no_form ws more))
+    (if_named w ws (codes "sheet") _ _ e refl (λ more. ap (option_map Sheet) (no_form ws more))
+    (if_named w ws (codes "make") _ _ e refl (λ more. ap (option_map Make) (no_alone CUES ws more))
+    (if_named w ws (codes "run") _ _ e refl (no_counted UNIVERSES (λ universes. Script (Live universes)) ws)
+    (if_named w ws (codes "undo") _ _ e refl (λ more. ap (option_map (Script Undo)) (no_form ws more))
+    (if_named w ws (codes "two") _ _ e refl (λ more. ap (option_map (Script Two)) (no_form ws more))
+    (if_named w ws (codes "crew") _ None e refl (no_counted OPERATORS Crew ws) refl)))))))

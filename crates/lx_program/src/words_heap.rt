@@ -64,8 +64,8 @@ impl WordsHeap {
 /// The words as the values of one argument. Out of memory is the one error.
 fn matches_of<'a>(alloc: Global, words: &'a [String]) -> Result<ArgMatches<'a>, Error>
     requires { list_any begins_with_dash (map string_bytes words.now) ≡ false }
-    ensures values { IfOk result (λ matches. values_of matches ≡ map string_bytes words.now) }
-    ensures memory { IfErr result (λ error. kind_of error ≡ ErrorKind.OutOfMemory) }
+    ensures { IfOk result (λ matches. values_of matches ≡ map string_bytes words.now)
+        × IfErr result (λ error. kind_of error ≡ ErrorKind.OutOfMemory) }
 {
     let count = words.len();
     prove!(count <= usize::MAX);

@@ -36,13 +36,13 @@ returns-in-Ok-clause-prefix g c =
 
 pub returns-in-Err-Memory-clause-ended : goal.returns-in-Err-Memory-clause-ended
 returns-in-Err-Memory-clause-ended g c =
-    of_each_job (map string_bytes c.args.words.now) (g.S.Source.left c.args.input.now)
+    of_each_job (job_of (map string_bytes c.args.words.now)) (g.S.Source.left c.args.input.now)
     (λ (job : Job) (bytes : List ℕ). WritesPrefix job bytes (g.K.Sink.holds c.args.output.now) (g.K.Sink.holds c.args.output.now))
     (λ job bytes. unwritten false job bytes (g.K.Sink.holds c.args.output.now))
 
 pub returns-in-Err-Memory-clause-prefix : goal.returns-in-Err-Memory-clause-prefix
 returns-in-Err-Memory-clause-prefix g c =
-    of_each_job (map string_bytes c.args.words.now) (g.S.Source.left c.args.input.now) _
+    of_each_job (job_of (map string_bytes c.args.words.now)) (g.S.Source.left c.args.input.now) _
     (λ job bytes. unwritten false job bytes (g.K.Sink.holds c.args.output.now))
 
 pub returns-in-Ok-clause-spared : goal.returns-in-Ok-clause-spared
@@ -57,7 +57,7 @@ returns-in-Ok-clause-wanted g c = λ is. inr (c.run_job_in.ensures.wanted is)
 
 pub returns-in-Err-Memory-clause-spared : goal.returns-in-Err-Memory-clause-spared
 returns-in-Err-Memory-clause-spared g c = λ stood.
-    of_each_job (map string_bytes c.args.words.now) (g.S.Source.left c.args.input.now)
+    of_each_job (job_of (map string_bytes c.args.words.now)) (g.S.Source.left c.args.input.now)
     (λ (job : Job) (bytes : List ℕ). WritesFront true job bytes (g.K.Sink.holds c.args.output.now) (g.K.Sink.holds c.args.output.now))
     (λ job bytes. unwritten true job bytes (g.K.Sink.holds c.args.output.now))
 

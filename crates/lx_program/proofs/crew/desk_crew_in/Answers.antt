@@ -2,28 +2,28 @@ use Rattle.lx_program.proofs.Imports.{inl, ap, refl, true, false, map, string_by
 use Rattle.std.proofs.Common.{inr, Err}
 use Rattle.lx_spec.specs.Reading.{reads}
 use Rattle.lx_desk.proofs.CrewEnds.{nothing_front}
-use Rattle.lx_program.proofs.JobWords.{of_each_crew, of_no_crew}
+use Rattle.lx_program.proofs.JobWords.{of_any_crew}
 use Rattle.lx_program.proofs.NothingBegun.{keeps_operators, none_served}
 use Rattle.lx_desk.specs.declared.desk.Status.TheVariants as status
 use Rattle.lx_program.proofs.crew.desk_crew_in.Goals as goal
 
 pub returns-in-Err-Memory-clause-prefix : goal.returns-in-Err-Memory-clause-prefix
 returns-in-Err-Memory-clause-prefix g c =
-    of_each_crew (job_of (map string_bytes c.args.words.now)) (g.I.Source.left c.args.input.now) _
-    (λ count form bytes. nothing_front form count g.S.Source (g.K.Sink.holds c.args.output.now) (g.K.Sink.holds c.args.output.now)
-    c.args.operators.now (reads form bytes) refl)
+    of_any_crew (job_of (map string_bytes c.args.words.now)) (g.I.Source.left c.args.input.now) _
+    (inr (λ count form bytes. nothing_front form count g.S.Source (g.K.Sink.holds c.args.output.now) (g.K.Sink.holds c.args.output.now)
+    c.args.operators.now (reads form bytes) refl))
 
 pub returns-in-Err-Memory-clause-ended : goal.returns-in-Err-Memory-clause-ended
 returns-in-Err-Memory-clause-ended g c =
-    of_each_crew (job_of (map string_bytes c.args.words.now)) (g.I.Source.left c.args.input.now) _
-    (λ count form bytes. none_served false g.S.Source count form bytes (g.I.Source.left c.args.input.now)
-    (g.K.Sink.holds c.args.output.now) c.args.operators.now)
+    of_any_crew _ _ _
+    (inr (λ count form bytes. none_served false g.S.Source count form bytes (g.I.Source.left c.args.input.now)
+    (g.K.Sink.holds c.args.output.now) c.args.operators.now))
 
 pub returns-in-Err-Memory-clause-spared : goal.returns-in-Err-Memory-clause-spared
 returns-in-Err-Memory-clause-spared g c = λ stood.
-    of_each_crew (job_of (map string_bytes c.args.words.now)) (g.I.Source.left c.args.input.now) _
-    (λ count form bytes. none_served true g.S.Source count form bytes (g.I.Source.left c.args.input.now)
-    (g.K.Sink.holds c.args.output.now) c.args.operators.now)
+    of_any_crew _ _ _
+    (inr (λ count form bytes. none_served true g.S.Source count form bytes (g.I.Source.left c.args.input.now)
+    (g.K.Sink.holds c.args.output.now) c.args.operators.now))
 
 pub returns-in-Err-Memory-clause-wanted : goal.returns-in-Err-Memory-clause-wanted
 returns-in-Err-Memory-clause-wanted g c = λ is. inl (c.in-Err-Memory.ensures.cause.failed c.in-Err-Memory.field-0-is, (refl, (refl, (refl, (refl, refl)))))
@@ -42,16 +42,13 @@ returns-in-Err-Memory-clause-words g c =
     (λ is. cc) c.requires.full
 
 pub returns-in-Err-Usage-clause-ended : goal.returns-in-Err-Usage-clause-ended
-returns-in-Err-Usage-clause-ended g c =
-    of_no_crew (job_of (map string_bytes c.args.words.now)) (g.I.Source.left c.args.input.now) _ (c.in-Err-Usage.ensures.usage (ap Err c.in-Err-Usage.field-0-is))
+returns-in-Err-Usage-clause-ended g c = of_any_crew _ _ _ (inl (c.in-Err-Usage.ensures.usage (ap Err c.in-Err-Usage.field-0-is)))
 
 pub returns-in-Err-Usage-clause-spared : goal.returns-in-Err-Usage-clause-spared
-returns-in-Err-Usage-clause-spared g c = λ stood.
-    of_no_crew (job_of (map string_bytes c.args.words.now)) (g.I.Source.left c.args.input.now) _ (c.in-Err-Usage.ensures.usage (ap Err c.in-Err-Usage.field-0-is))
+returns-in-Err-Usage-clause-spared g c = λ stood. of_any_crew _ _ _ (inl (c.in-Err-Usage.ensures.usage (ap Err c.in-Err-Usage.field-0-is)))
 
 pub returns-in-Err-Usage-clause-prefix : goal.returns-in-Err-Usage-clause-prefix
-returns-in-Err-Usage-clause-prefix g c =
-    of_no_crew (job_of (map string_bytes c.args.words.now)) (g.I.Source.left c.args.input.now) _ (c.in-Err-Usage.ensures.usage (ap Err c.in-Err-Usage.field-0-is))
+returns-in-Err-Usage-clause-prefix g c = of_any_crew _ _ _ (inl (c.in-Err-Usage.ensures.usage (ap Err c.in-Err-Usage.field-0-is)))
 
 pub returns-in-Ok-clause-words_kept : goal.returns-in-Ok-clause-words_kept
 returns-in-Ok-clause-words_kept g c = inl c.in-Ok.ensures.cause.kept

@@ -1,6 +1,6 @@
-use Rattle.lx_program.proofs.Imports.{inl, ap, refl, true, false, map, string_bytes, job_of, Option, Job, subst, sym}
+use Rattle.lx_program.proofs.Imports.{inl, ap, refl, map, string_bytes, job_of, Option, Job, subst, sym}
 use Rattle.std.proofs.Common.{inr, Err}
-use Rattle.lx_program.proofs.JobWords.{of_each_run, of_no_run, of_run}
+use Rattle.lx_program.proofs.JobWords.{of_any_run, of_run}
 use Rattle.lx_program.proofs.NothingBegun.{keeps_outlets, none_lived}
 use Rattle.lx_desk.specs.Live.{KeepsOutlets}
 use Rattle.lx_desk.specs.declared.desk.Status.TheVariants as status
@@ -8,9 +8,9 @@ use Rattle.lx_program.proofs.live.desk_live_in.Goals as goal
 
 pub returns-in-Err-Memory-clause-ended : goal.returns-in-Err-Memory-clause-ended
 returns-in-Err-Memory-clause-ended g c = λ ample stood sent.
-    of_each_run (job_of (map string_bytes c.args.words.now)) (g.S.Source.left c.args.input.now) _
-    (λ universes form bytes. none_lived ample g.K.Sink universes form bytes
-    (g.S.Source.left c.args.input.now) (g.O.Sink.holds c.args.output.now) c.args.outlets.now)
+    of_any_run _ _ _
+    (inr (λ universes form bytes. none_lived ample g.K.Sink universes form bytes
+    (g.S.Source.left c.args.input.now) (g.O.Sink.holds c.args.output.now) c.args.outlets.now))
 
 pub returns-in-Err-Memory-clause-wanted : goal.returns-in-Err-Memory-clause-wanted
 returns-in-Err-Memory-clause-wanted g c = λ is. inl (c.in-Err-Memory.ensures.cause.failed c.in-Err-Memory.field-0-is, (refl, (refl, (refl, (refl, refl)))))
@@ -29,17 +29,14 @@ returns-in-Err-Memory-clause-outlets g c =
     (λ is. cc)
 
 pub returns-in-Err-Usage-clause-ended : goal.returns-in-Err-Usage-clause-ended
-returns-in-Err-Usage-clause-ended g c = λ ample stood sent.
-    of_no_run (job_of (map string_bytes c.args.words.now)) (g.S.Source.left c.args.input.now) _ (c.in-Err-Usage.ensures.usage (ap Err c.in-Err-Usage.field-0-is))
+returns-in-Err-Usage-clause-ended g c = λ ample stood sent. of_any_run _ _ _ (inl (c.in-Err-Usage.ensures.usage (ap Err c.in-Err-Usage.field-0-is)))
 
 pub returns-in-Err-Usage-clause-order : goal.returns-in-Err-Usage-clause-order
-returns-in-Err-Usage-clause-order g c = λ ample stood sent.
-    of_no_run (job_of (map string_bytes c.args.words.now)) (g.S.Source.left c.args.input.now) _ (c.in-Err-Usage.ensures.usage (ap Err c.in-Err-Usage.field-0-is))
+returns-in-Err-Usage-clause-order g c = λ ample stood sent. of_any_run _ _ _ (inl (c.in-Err-Usage.ensures.usage (ap Err c.in-Err-Usage.field-0-is)))
 
 pub returns-in-Err-Memory-clause-order : goal.returns-in-Err-Memory-clause-order
 returns-in-Err-Memory-clause-order g c = λ ample stood sent.
-    of_each_run (job_of (map string_bytes c.args.words.now)) (g.S.Source.left c.args.input.now) _
-    (λ universes form bytes. inl (inl (refl, refl)))
+    of_any_run _ _ _ (inr (λ universes form bytes. inl (inl (refl, refl))))
 
 pub returns-in-Ok-clause-words_kept : goal.returns-in-Ok-clause-words_kept
 returns-in-Ok-clause-words_kept g c = inl c.in-Ok.ensures.cause.kept

@@ -10,8 +10,8 @@ some_is : (o : Option ValueRange) (x : ValueRange) → IsSomeAnd o (λ r. r ≡ 
 some_is None x p = absurd p
 some_is (Some y) x p = ap (λ (r : ValueRange). Some r) p
 
-pub returns-clause-values : goal.returns-clause-values
-returns-clause-values c =
+pub returns : goal.returns
+returns c =
     let rule_is : rule_of c.action-word.result ≡ the_rule = ap rule_of c.action-word.ensures
     ∙ ap (λ (r : Rule). record r { action = Some Append })
     (ap rule_of c.num_args.ensures.0 ∙ ap₂ (λ (v : Option ValueRange) (r : Rule). record r { range = v })
@@ -21,21 +21,10 @@ returns-clause-values c =
     ∙ ap₂ with_rule (ap app_of_fields c.no_binary_name.ensures ∙ ap (on_top (λ s. record s { no_binary_name = true })) c.new-2.ensures.app)
     rule_is in
     let words = map string_bytes c.args.words.now in
-    IfOk-weaker c.try_get_matches_from.result _ _
-    (λ m h. are_given words m c.requires ((h (ap is_simple app_is ∙ is_the_app)).0 ∙ ap (λ (a : App). matches_of a words) app_is))
-    c.try_get_matches_from.ensures.matches
-
-pub returns-clause-memory : goal.returns-clause-memory
-returns-clause-memory c =
-    let rule_is : rule_of c.action-word.result ≡ the_rule = ap rule_of c.action-word.ensures
-    ∙ ap (λ (r : Rule). record r { action = Some Append })
-    (ap rule_of c.num_args.ensures.0 ∙ ap₂ (λ (v : Option ValueRange) (r : Rule). record r { range = v })
-    (some_is c.num_args.result.num_vals (record { start_inclusive = 1; end_inclusive = usize_max }) c.num_args.ensures.1)
-    c.new.ensures.rule) in
-    let app_is : app_of c.in_ok-command.command ≡ the_app = c.in_ok-command.ensures.shape (search rules)
-    ∙ ap₂ with_rule (ap app_of_fields c.no_binary_name.ensures ∙ ap (on_top (λ s. record s { no_binary_name = true })) c.new-2.ensures.app)
-    rule_is in
-    let words = map string_bytes c.args.words.now in
-    let few : length words ≤ usize_max = omega (arith, length-map c.args.words.now string_bytes, c.if-prove.false) in
-    IfErr-weaker c.try_get_matches_from.result _ _ (λ e h. h (ap (λ (a : App). takes a words) app_is ∙ are_taken words c.requires few))
-    c.try_get_matches_from.ensures.passes
+    let few : length words ≤ usize_max = omega (arith, length-map c.args.words.now string_bytes, c.if-prove.false) in (
+      IfOk-weaker c.try_get_matches_from.result _ _
+          (λ m h. are_given words m c.requires ((h (ap is_simple app_is ∙ is_the_app)).0 ∙ ap (λ (a : App). matches_of a words) app_is))
+          c.try_get_matches_from.ensures.matches,
+      IfErr-weaker c.try_get_matches_from.result _ _ (λ e h. h (ap (λ (a : App). takes a words) app_is ∙ are_taken words c.requires few))
+          c.try_get_matches_from.ensures.passes,
+    )

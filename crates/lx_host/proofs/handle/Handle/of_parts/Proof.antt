@@ -1,6 +1,6 @@
 -- `of_parts` keeps the pointer, and what the parts own goes with it.
 use Rattle.lx_host.proofs.Imports.{refl, sym, subst, List, [], ◌∷◌, ◌++◌, Ura, Val, vptr, SProp, ent, emp, id⊢, ftrue, fsep, Memory, Routine, WpFn}
-use Rattle.lx_host.proofs.Imports.{Tables, Logic, Fun, tables, WpFn-mono, Item, ‵, raw, ◌⊛◌, ◌$◌, ◌∵◌, !, qed, by, move, keep, drop, use1}
+use Rattle.lx_host.proofs.Imports.{Tables, Logic, Fun, tables, WpFn-mono, Item, ‵, raw, ◌⊛◌, ◌$◌, ◌∵◌, !, qed, by, keep, drop, use1}
 use Rattle.lx_host.proofs.Imports.{join, split, fsplit, fjoin, fpack, suffices, done, whole, sub, agg, stop, fld, no_more, and_then, of_opd, returns, enter}
 use Rattle.lx_host.proofs.Imports.{alloc_all, pass_all, free_all, look_at, get, get_in, sets, yes, block_ptr, type_at, nothing, triple_of, entered, says, Stays}
 use Rattle.lx_host.proofs.Imports.{stay_dropped, walk_of, ends_at, Goes-dropped, walk_Meets, Some, D, B, word, box_typed, box_out, handle_owns, boxed}
