@@ -1,5 +1,5 @@
 -- What was read of a source while a line was put together, and how the line's step ends.
-use Rattle.lx_lex.proofs.Imports.{◌≡◌, ◌⊎◌, inl, inr, ℕ, ◌<◌, ◌≤◌, false, List, [], ◌++◌, length, Some, None, refl, sym, ap}
+use Rattle.lx_lex.proofs.Imports.{◌≡◌, ◌⊎◌, inl, inr, ℕ, ◌<◌, ◌≤◌, false, List, [], ◌++◌, length, Some, None, refl, sym}
 use Rattle.lx_lex.proofs.Imports.{◌∙◌, subst, arith, Option, Consumes, Consumes-trans, cases_lt, LINE_BYTES, HasNoFeed, Lines, Step, Line, LongLine}
 use Rattle.lx_lex.proofs.Imports.{ReadsWhileUnfed, HasStepCause, held, has_feed, ToldBySource}
 use Rattle.lx_lex.proofs.Feeds.{no_feed-from}

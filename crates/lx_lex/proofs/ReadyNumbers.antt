@@ -1,10 +1,10 @@
 -- The rows of the table of channels' numbers.
-use Rattle.lx_lex.proofs.Imports.{◌≡◌, ℕ, ◌+◌, ◌-◌, ◌*◌, ◌/◌, ◌%◌, ◌<◌, ◌≤◌, true, List, [], ◌∷◌, ◌++◌, get_or}
-use Rattle.lx_lex.proofs.Imports.{length, map, take, drop, decimal, arith, cond, inl, inr, refl, sym, ap, ◌∙◌, subst, append_assoc, codes, eqb, nat_lt}
-use Rattle.lx_lex.proofs.Imports.{list_all, range_with_len, starts_with, cases_Bool, cases_lt, Decides-eqb, nat_tests, decimal_digit, length-drop, take_all}
-use Rattle.lx_lex.proofs.Imports.{get_or-map-range_with_len, starts_is, pair, decimal_two, decimal_pair, is_digit, number_of, is_separator, begins_comment}
+use Rattle.lx_lex.proofs.Imports.{◌≡◌, ℕ, ◌+◌, ◌-◌, ◌/◌, ◌%◌, ◌<◌, ◌≤◌, true, List, ◌∷◌, ◌++◌, get_or}
+use Rattle.lx_lex.proofs.Imports.{length, map, take, drop, decimal, arith, cond, inl, inr, refl, sym, ap, ◌∙◌, subst, codes, eqb, nat_lt}
+use Rattle.lx_lex.proofs.Imports.{range_with_len, starts_with, cases_Bool, cases_lt, Decides-eqb, nat_tests, decimal_digit, length-drop, take_all}
+use Rattle.lx_lex.proofs.Imports.{get_or-map-range_with_len, starts_is, pair, decimal_two, decimal_pair, is_separator, begins_comment}
 use Rattle.lx_lex.proofs.Imports.{tokens, lt_true, lt_false, BeginsWithDigits, EndsToken, FirstIsNumber}
-use Rattle.lx_lex.specs.declared.names.TheConstants.{NUMBERS, DIGITS}
+use Rattle.lx_lex.specs.declared.names.TheConstants.{NUMBERS}
 use Rattle.lx_lex.proofs.LineCuts.{tokens_by-separator}
 use Rattle.lx_lex.proofs.PlainNumbers.{number_at_once}
 use Rattle.lx_lex.proofs.Separators.{apart}
@@ -15,31 +15,18 @@ ready n = cond (nat_lt n 10) ((48 + n) ∷ codes "@  ")
     (cond (nat_lt n 100) (pair n ++ codes "@ ")
     (cond (nat_lt n 1000) ((48 + n / 100) ∷ (pair (n % 100) ++ codes "@")) (pair (n / 100) ++ pair (n % 100))))
 
-numbers_are : NUMBERS ≡ map ready (range_with_len 0 4097)
+numbers_are : NUMBERS ≡ map ready (range_with_len 0 4100)
 numbers_are = refl
 
--- how many digits it has
-abbrev digits : ℕ → ℕ
-digits n = cond (nat_lt n 10) 1 (cond (nat_lt n 100) 2 (cond (nat_lt n 1000) 3 4))
-
-digits_are : DIGITS ≡ map digits (range_with_len 0 4097)
-digits_are = refl
-
 number_row : (n : ℕ) (d : List ℕ) → n < 4097 → get_or NUMBERS n d ≡ ready n
-number_row n d lt = ap (λ rows. get_or rows n d) numbers_are ∙ get_or-map-range_with_len ready 0 4097 n n d lt (omega arith)
+number_row n d lt = ap (λ rows. get_or rows n d) numbers_are ∙ get_or-map-range_with_len ready 0 4100 n n d (omega (arith, lt)) (omega arith)
 
-digits_row : (n d : ℕ) → n < 4097 → get_or DIGITS n d ≡ digits n
-digits_row n d lt = ap (λ rows. get_or rows n d) digits_are ∙ get_or-map-range_with_len digits 0 4097 n n d lt (omega arith)
-
-abbrev IsReady : ℕ → List ℕ → ℕ → Type 0
-IsReady n row count = (count ≡ length (decimal n)) × ((count ≤ 4) × (take (length (decimal n)) row ≡ decimal n))
-
-ready_is : (n : ℕ) → n < 4097 → IsReady n (ready n) (digits n)
-ready_is n lt =
+begins_with : (n : ℕ) → n < 4097 → take (length (decimal n)) (ready n) ≡ decimal n
+begins_with n lt =
     elim (cases_lt n 10) [
-      | inl low ↦ rw (lt_true n 10 low, decimal_digit n low) (refl, (omega arith, refl))
+      | inl low ↦ rw (lt_true n 10 low, decimal_digit n low) refl
       | inr from ↦ elim (cases_lt n 100) [
-        | inl low ↦ rw (lt_false n 10 from, lt_true n 100 low, decimal_two n from low) (refl, (omega arith, refl))
+        | inl low ↦ rw (lt_false n 10 from, lt_true n 100 low, decimal_two n from low) refl
         | inr more ↦ elim (cases_lt n 1000) [
           | inl low ↦
               rw (
@@ -49,7 +36,7 @@ ready_is n lt =
                 decimal_pair n more (omega arith),
                 decimal_digit (n / 100) (omega arith),
               )
-              (refl, (omega arith, refl))
+              refl
           | inr most ↦
               rw (
                 lt_false n 10 from,
@@ -58,24 +45,13 @@ ready_is n lt =
                 decimal_pair n more (omega arith),
                 decimal_two (n / 100) (omega arith) (omega arith),
               )
-              (refl, (omega arith, refl))
+              refl
         ]
       ]
     ]
 
-number_is : (n : ℕ) (d : List ℕ) → n < 4097 → take (length (decimal n)) (get_or NUMBERS n d) ≡ decimal n
-number_is n d lt = rw (number_row n d lt) (ready_is n lt).1.1
-
--- the same, of another word for the number
-pub number_of_row : (n chan : ℕ) (d : List ℕ) → n < 4097 → n ≡ chan → take (length (decimal chan)) (get_or NUMBERS n d) ≡ decimal chan
-number_of_row n chan d lt is =
-    ap (λ (k : ℕ). take (length (decimal k)) (get_or NUMBERS n d)) (sym is) ∙ number_is n d lt ∙ ap decimal is
-
-pub digits_is : (n d : ℕ) → n < 4097 → get_or DIGITS n d ≡ length (decimal n)
-digits_is n d lt = digits_row n d lt ∙ (ready_is n lt).0
-
-pub digits_few : (n d : ℕ) → n < 4097 → get_or DIGITS n d ≤ 4
-digits_few n d lt = rw (digits_row n d lt) (ready_is n lt).1.0
+pub number_of_row : (n : ℕ) (d : List ℕ) → n < 4097 → take (length (decimal n)) (get_or NUMBERS n d) ≡ decimal n
+number_of_row n d lt = rw (number_row n d lt) (begins_with n lt)
 
 -- a number of three digits, and `@` behind it
 three_digits : (n : ℕ) (rest : List ℕ) → 100 ≤ n → n < 1000

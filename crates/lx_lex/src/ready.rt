@@ -4,7 +4,7 @@ ghost use Rattle.std.specs.Prelude.{◌≡◌, ◌≤◌, IfSome, decimal, lengt
 ghost use Rattle.lx_spec.specs.Text.{tokens};
 ghost use Rattle.lx_lex.specs.PlainNumber.{FirstIsNumber};
 
-use crate::names::{DIGITS, NUMBERS};
+use crate::names::NUMBERS;
 use crate::plain::past_byte;
 use lx_base::Chan;
 
@@ -22,7 +22,12 @@ pub fn ready_digits(chan: Chan) -> usize
     ensures few { result ≤ 4 }
     ensures digits { result ≡ length (decimal chan) }
 {
-    DIGITS[chan.get() as usize] as usize
+    match chan.get() {
+        0..=9 => 1,
+        10..=99 => 2,
+        100..=999 => 3,
+        _ => 4,
+    }
 }
 
 /// What follows the channel's number and `@` behind it, where both stand at the front of the line. None where they don't, and for a
