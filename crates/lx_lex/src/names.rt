@@ -1,48 +1,56 @@
-//! The ready numbers of channels: a table that macros write, one digit after the other.
+//! Ready tables, a row for each number: what writes them, and the channels' numbers.
 #![tactic(auto)]
 
-/// Hands to `then` what is kept, and each number once more with each digit behind it.
-macro_rules! with_one_more {
-    ($then:ident {$($kept:tt)*} $([$($digit:literal)*])*) => {
-        $then! { {$($kept)*} $(
+/// A table with a row for each number: those of one digit and of two, and then a hundred for each number whose digits are given. A row is
+/// what `row!(with [its digits])` is.
+#[macro_export]
+macro_rules! numbers {
+    ($row:ident $with:tt: $($hundred:tt)*) => {
+        $crate::numbers! {
+            @each_digit {@hundreds $row $with {$($hundred)*}}
+            {[b'0'] [b'1'] [b'2'] [b'3'] [b'4'] [b'5'] [b'6'] [b'7'] [b'8'] [b'9']}
+            [b'1'] [b'2'] [b'3'] [b'4'] [b'5'] [b'6'] [b'7'] [b'8'] [b'9']
+        }
+    };
+    // What is kept goes on, and each number once more with each digit behind it.
+    (@each_digit {$($then:tt)*} $kept:tt $([$($digit:literal)*])*) => {
+        $crate::numbers! { $($then)* $kept $(
             [$($digit)* b'0'] [$($digit)* b'1'] [$($digit)* b'2'] [$($digit)* b'3'] [$($digit)* b'4']
             [$($digit)* b'5'] [$($digit)* b'6'] [$($digit)* b'7'] [$($digit)* b'8'] [$($digit)* b'9']
         )* }
     };
+    (@hundreds $row:ident $with:tt {$($hundred:tt)*} {$($kept:tt)*} $($number:tt)*) => {
+        $crate::numbers! { @each_digit {@tens $row $with} {$($kept)* $($number)*} $($hundred)* }
+    };
+    (@tens $row:ident $with:tt $kept:tt $($ten:tt)*) => {
+        $crate::numbers! { @each_digit {@rows $row $with} $kept $($ten)* }
+    };
+    (@rows $row:ident $with:tt {$($kept:tt)*} $($number:tt)*) => {
+        [$($row!($with $kept),)* $($row!($with $number)),*]
+    };
 }
 
-macro_rules! from_one_digit {
-    ({} $zero:tt $($number:tt)*) => { with_one_more! { from_two_digits {$zero $($number)*} $($number)* } };
+/// A table with a row for each two digits of those that are given. A row is what `row!(first second)` is.
+#[macro_export]
+macro_rules! pairs {
+    ($row:ident: $($digit:literal)*) => { $crate::pairs! { @behind_each $row {$($digit)*} $($digit)* } };
+    (@behind_each $row:ident $digits:tt $($first:literal)*) => { $crate::pairs! { @rows $row $([$first $digits])* } };
+    (@rows $row:ident $([$first:literal {$($second:literal)*}])*) => { [$($($row!($first $second)),*),*] };
 }
 
-macro_rules! from_two_digits {
-    ({$($kept:tt)*} $($number:tt)*) => { with_one_more! { from_three_digits {$($kept)* $($number)*} $($number)* } };
-}
-
-/// Those of four digits begin with 1 to 3, or with 40.
-macro_rules! from_three_digits {
-    ({$($kept:tt)*} $($number:tt)*) => { with_one_more! { from_1000 {$($kept)* $($number)*} [b'1'] [b'2'] [b'3'] } };
-}
-
-macro_rules! from_1000 {
-    ({$($kept:tt)*} $($hundreds:tt)*) => { with_one_more! { from_each_ten {$($kept)*} $($hundreds)* [b'4' b'0'] } };
-}
-
-macro_rules! from_each_ten {
-    ({$($kept:tt)*} $($ten:tt)*) => { with_one_more! { rows {$($kept)*} $($ten)* } };
-}
-
-macro_rules! rows {
-    ({} $($number:tt)*) => { [$(row! $number),*] };
-    ({$($kept:tt)*} $($number:tt)*) => { rows! { {} $($kept)* $($number)* } };
-}
-
+/// A number, what stands behind it, and spaces up to four bytes.
 macro_rules! row {
-    ($a:literal) => { [$a, b'@', b' ', b' '] };
-    ($a:literal $b:literal) => { [$a, $b, b'@', b' '] };
-    ($a:literal $b:literal $c:literal) => { [$a, $b, $c, b'@'] };
-    ($a:literal $b:literal $c:literal $d:literal) => { [$a, $b, $c, $d] };
+    ($behind:literal [$a:literal]) => { [$a, $behind, b' ', b' '] };
+    ($behind:literal [$a:literal $b:literal]) => { [$a, $b, $behind, b' '] };
+    ($behind:literal [$a:literal $b:literal $c:literal]) => { [$a, $b, $c, $behind] };
+    ($behind:literal [$a:literal $b:literal $c:literal $d:literal]) => { [$a, $b, $c, $d] };
 }
 
 /// A channel's number at the front of four bytes, and `@` behind it where there is room. The last three are of no channel.
-pub(crate) static NUMBERS: [[u8; 4]; 4100] = with_one_more! { from_one_digit {} [] };
+pub(crate) static NUMBERS: [[u8; 4]; 4100] = numbers! { row b'@':
+    [b'1'] [b'2'] [b'3'] [b'4'] [b'5'] [b'6'] [b'7'] [b'8'] [b'9']
+    [b'1' b'0'] [b'1' b'1'] [b'1' b'2'] [b'1' b'3'] [b'1' b'4'] [b'1' b'5'] [b'1' b'6'] [b'1' b'7'] [b'1' b'8'] [b'1' b'9']
+    [b'2' b'0'] [b'2' b'1'] [b'2' b'2'] [b'2' b'3'] [b'2' b'4'] [b'2' b'5'] [b'2' b'6'] [b'2' b'7'] [b'2' b'8'] [b'2' b'9']
+    [b'3' b'0'] [b'3' b'1'] [b'3' b'2'] [b'3' b'3'] [b'3' b'4'] [b'3' b'5'] [b'3' b'6'] [b'3' b'7'] [b'3' b'8'] [b'3' b'9']
+    [b'4' b'0']
+};

@@ -11,7 +11,7 @@ ready before n = cond (nat_lt n 10) (before ∷ (48 + n) ∷ 32 ∷ 32 ∷ [])
     (cond (nat_lt n 100) (before ∷ (48 + n / 10) ∷ (48 + n % 10) ∷ 32 ∷ [])
     (before ∷ (48 + n / 100) ∷ (48 + n % 100 / 10) ∷ (48 + n % 100 % 10) ∷ []))
 
-levels_are : LEVELS ≡ map (ready 61) (range_with_len 0 256)
+levels_are : LEVELS ≡ map (ready 61) (range_with_len 0 300)
 levels_are = refl
 
 numbers_are : NUMBERS ≡ map (ready 32) (range_with_len 0 1000)
@@ -21,7 +21,7 @@ numbers_are = refl
 abbrev count : ℕ → ℕ → ℕ
 count w v = cond (v == 0) 0 (w + cond (nat_lt v 10) 2 (cond (nat_lt v 100) 3 4))
 
-counts_are : COUNTS ≡ map (λ w. map (count w) (range_with_len 0 256)) (range_with_len 2 4)
+counts_are : COUNTS ≡ map (λ w. map (count w) (range_with_len 0 300)) (range_with_len 2 4)
 counts_are = refl
 
 pairs_are : PAIRS ≡ map pair (range_with_len 0 100)
@@ -31,7 +31,7 @@ pub pair_row : (n : ℕ) (d : List ℕ) → n < 100 → get_or PAIRS n d ≡ pai
 pair_row n d lt = ap (λ rows. get_or rows n d) pairs_are ∙ get_or-map-range_with_len pair 0 100 n n d lt (omega arith)
 
 pub level_row : (v : ℕ) (d : List ℕ) → v < 256 → get_or LEVELS v d ≡ ready 61 v
-level_row v d lt = ap (λ rows. get_or rows v d) levels_are ∙ get_or-map-range_with_len (ready 61) 0 256 v v d lt (omega arith)
+level_row v d lt = ap (λ rows. get_or rows v d) levels_are ∙ get_or-map-range_with_len (ready 61) 0 300 v v d (omega (arith, lt)) (omega arith)
 
 pub number_row : (n : ℕ) (d : List ℕ) → n < 1000 → get_or NUMBERS n d ≡ ready 32 n
 number_row n d lt = ap (λ rows. get_or rows n d) numbers_are ∙ get_or-map-range_with_len (ready 32) 0 1000 n n d lt (omega arith)
@@ -58,11 +58,11 @@ ready_front before n count lt is =
 pub count_at : (w v : ℕ) → 2 ≤ w → w ≤ 5 → v < 256
     → get_or (get_or COUNTS (w - 2) []) v 0 ≡ cond (v == 0) 0 (w + (length (decimal v) + 1))
 count_at w v least most lt =
-    let row : get_or COUNTS (w - 2) [] ≡ map (count w) (range_with_len 0 256)
+    let row : get_or COUNTS (w - 2) [] ≡ map (count w) (range_with_len 0 300)
     = ap (λ rows. get_or rows (w - 2) []) counts_are
-    ∙ get_or-map-range_with_len (λ w. map (count w) (range_with_len 0 256)) 2 4 (w - 2) w [] (omega arith) (omega arith) in
+    ∙ get_or-map-range_with_len (λ w. map (count w) (range_with_len 0 300)) 2 4 (w - 2) w [] (omega arith) (omega arith) in
     let is : get_or (get_or COUNTS (w - 2) []) v 0 ≡ count w v
-    = ap (λ counts. get_or counts v 0) row ∙ get_or-map-range_with_len (count w) 0 256 v v 0 lt (omega arith) in
+    = ap (λ counts. get_or counts v 0) row ∙ get_or-map-range_with_len (count w) 0 300 v v 0 (omega (arith, lt)) (omega arith) in
     elim (cases_lt v 10) [
       | inl low ↦ rw (is, lt_true v 10 low, length_one v low) refl
       | inr from ↦ elim (cases_lt v 100) [
