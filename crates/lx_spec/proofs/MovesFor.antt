@@ -6,32 +6,7 @@ use Rattle.lx_spec.proofs.Imports.{entries_above, placed, Cue, Show, InRange, mo
 use Rattle.lx_spec.proofs.Along.{tracked_on}
 use Rattle.lx_spec.proofs.Comparisons.{eq_other, eq_true, equal_above, equal_below}
 use Rattle.lx_spec.proofs.Lists.{each, find_in_filter, find_none, or_none}
-use Rattle.lx_spec.proofs.SortedLists.{all_above, all_below}
-
--- what is found after an entry was placed
-pub entry_at-placed : {A : Type 0} (key : A → ℕ) (n : ℕ) (x : A) (xs : List A)
-    → entry_at key n (placed key x xs) ≡ cond (key x == n) (Some x) (entry_at key n xs)
-entry_at-placed {A} key n x xs =
-    let split = find-append (λ y. key y == n) (entries_below key (key x) xs) (x ∷ entries_above key (key x) xs) in
-    elim (cases_order (key x) n) [
-      | inl here ↦
-          let none : entry_at key n (entries_below key (key x) xs) ≡ None =
-          find_none _ _ (each _ _ _ (λ y h. eq_other (key y) n (λ same. omega (arith, h, here))) (all_below key (key x) xs)) in
-          split ∙ rw (none, eq_true (key x) n here) refl
-      | inr apart ↦ elim apart [
-        | inl low ↦
-            let none : entry_at key n (entries_below key (key x) xs) ≡ None =
-            find_none _ _ (each _ _ _ (λ y h. eq_other (key y) n (λ same. omega (arith, h))) (all_below key (key x) xs)) in
-            split ∙ rw (none, eq_other (key x) n (λ same. omega arith))
-            (find_in_filter (λ y. key y == n) (λ y. nat_lt (key x) (key y)) xs (λ y h. equal_above (key y) n (key x) low h))
-        | inr high ↦
-            let none : entry_at key n (entries_above key (key x) xs) ≡ None =
-            find_none _ _ (each _ _ _ (λ y h. eq_other (key y) n (λ same. omega (arith, h))) (all_above key (key x) xs)) in
-            let front : entry_at key n (entries_below key (key x) xs) ≡ entry_at key n xs =
-            find_in_filter (λ y. key y == n) (λ y. nat_lt (key y) (key x)) xs (λ y h. equal_below (key y) n (key x) high h) in
-            split ∙ rw (eq_other (key x) n (λ same. omega arith), none, front) (or_none (entry_at key n xs))
-      ]
-    ]
+use Rattle.lx_spec.proofs.SortedLists.{entry_at-placed}
 
 -- a move in part 1 at the channel's level
 abbrev pub move_at : (ℕ → ℕ) → ℕ → Move

@@ -1,7 +1,7 @@
 -- Lists that are sorted by a number of their entries: cut at a number, filtered, changed, and with an entry placed.
 use Rattle.lx_spec.proofs.Imports.{◌≡◌, ℕ, zero, suc, ◌+◌, ◌-◌, ◌<◌, ◌≤◌, Bool, true, false, cond, List, [], ◌∷◌, ◌++◌}
 use Rattle.lx_spec.proofs.Imports.{length, get_or, take, drop, Some, None, refl, ◌∙◌, sym, ap, subst, inl, inr, arith, Option, IfSome, IsTrue, filter}
-use Rattle.lx_spec.proofs.Imports.{find, map, is_some, nat_lt, ◌==◌, AllByRecursion, cases_order, false≢true, take-append-drop, drop_more, append-nil}
+use Rattle.lx_spec.proofs.Imports.{find, map, is_some, nat_lt, ◌==◌, AllByRecursion, cases_order, false≢true, cases_lt, option_to_list, take-append-drop, drop_more, append-nil}
 use Rattle.lx_spec.proofs.Imports.{length-append, filter-append, All-from_recursion, find-append, InRange, IsStrictlySorted, entry_at, has_entry, entries_below}
 use Rattle.lx_spec.proofs.Imports.{entries_above, placed, taken_out}
 use Rattle.std.specs.List.Sorted.{IsNonDecreasingBy}
@@ -23,39 +23,46 @@ in_order key (x ∷ xs) sorted zero (suc j) d le lt =
 in_order key (x ∷ xs) sorted (suc i) zero d le lt = absurd (omega arith)
 in_order key (x ∷ xs) sorted (suc i) (suc j) d le lt = in_order key xs sorted.1 i j d (omega arith) (omega arith)
 
+-- What stands on one side of a number is kept by one filter and not by the other, and has no entry of the number.
+all_low : {A : Type 0} (key : A → ℕ) (n : ℕ) (xs : List A) → AllByRecursion (λ y. key y < n) xs → entries_below key n xs ≡ xs
+all_low key n xs below = filter_all _ xs (each _ _ xs (λ y h. lt_true (key y) n h) below)
+
+none_high : {A : Type 0} (key : A → ℕ) (n : ℕ) (xs : List A) → AllByRecursion (λ y. key y < n) xs → entries_above key n xs ≡ []
+none_high key n xs below = filter_none _ xs (each _ _ xs (λ y h. lt_false n (key y) (omega arith)) below)
+
+all_high : {A : Type 0} (key : A → ℕ) (n : ℕ) (xs : List A) → AllByRecursion (λ y. n < key y) xs → entries_above key n xs ≡ xs
+all_high key n xs above = filter_all _ xs (each _ _ xs (λ y h. lt_true n (key y) h) above)
+
+pub none_below : {A : Type 0} (key : A → ℕ) (n : ℕ) (xs : List A) → AllByRecursion (λ y. n < key y) xs → entries_below key n xs ≡ []
+none_below key n xs above = filter_none _ xs (each _ _ xs (λ y h. lt_false (key y) n (omega arith)) above)
+
+none_there : {A : Type 0} (key : A → ℕ) (n : ℕ) (xs : List A) → AllByRecursion (λ y. n < key y) xs → entry_at key n xs ≡ None
+none_there key n xs above = find_none _ xs (each _ _ xs (λ y h. eq_above (key y) n h) above)
+
+not_before : {A : Type 0} (key : A → ℕ) (n : ℕ) (front back : List A) → AllByRecursion (λ y. key y < n) front
+    → entry_at key n (front ++ back) ≡ entry_at key n back
+not_before key n front back below = find_after _ front back (each _ _ front (λ y h. eq_below (key y) n h) below)
+
 -- those below a number, and then those above it
 pub goes_between : {A : Type 0} (key : A → ℕ) (n : ℕ) (front back : List A) → AllByRecursion (λ y. key y < n) front
     → AllByRecursion (λ y. n < key y) back → (entries_below key n (front ++ back) ≡ front) × (entry_at key n (front ++ back) ≡ None)
     × (entries_above key n (front ++ back) ≡ back)
-goes_between {A} key n front back below above =
-    let low : entries_below key n front ≡ front = filter_all _ front (each _ _ front (λ y h. lt_true (key y) n h) below) in
-    let no_low : entries_below key n back ≡ [] = filter_none _ back (each _ _ back (λ y h. lt_false (key y) n (omega arith)) above) in
-    let no_high : entries_above key n front ≡ [] = filter_none _ front (each _ _ front (λ y h. lt_false n (key y) (omega arith)) below) in
-    let high : entries_above key n back ≡ back = filter_all _ back (each _ _ back (λ y h. lt_true n (key y) h) above) in
-    let not_front : entry_at key n (front ++ back) ≡ entry_at key n back =
-    find_after _ front back (each _ _ front (λ y h. eq_below (key y) n h) below) in
-    let not_back : entry_at key n back ≡ None = find_none _ back (each _ _ back (λ y h. eq_above (key y) n h) above) in (
-      filter-append (λ y. nat_lt (key y) n) front back ∙ cc (append-nil front),
-      not_front ∙ not_back,
-      filter-append (λ y. nat_lt n (key y)) front back ∙ (cc),
-    )
+goes_between key n front back below above = (
+  rw (filter-append, all_low key n front below, none_below key n back above, append-nil) refl,
+  not_before key n front back below ∙ none_there key n back above,
+  rw (filter-append, none_high key n front below, all_high key n back above) refl,
+)
 
 -- an entry between those below its number and those above it
 pub stands_between : {A : Type 0} (key : A → ℕ) (n : ℕ) (front back : List A) (x : A) → AllByRecursion (λ y. key y < n) front → key x ≡ n
     → AllByRecursion (λ y. n < key y) back → (entries_below key n (front ++ (x ∷ back)) ≡ front)
     × (entry_at key n (front ++ (x ∷ back)) ≡ Some x) × (entries_above key n (front ++ (x ∷ back)) ≡ back)
-stands_between {A} key n front back x below here above =
-    let low : entries_below key n front ≡ front = filter_all _ front (each _ _ front (λ y h. lt_true (key y) n h) below) in
-    let no_low : entries_below key n (x ∷ back) ≡ [] =
-    filter_none (λ y. nat_lt (key y) n) (x ∷ back)
-    (lt_false (key x) n (omega arith), each _ _ back (λ y h. lt_false (key y) n (omega arith)) above) in
-    let no_high : entries_above key n front ≡ [] = filter_none _ front (each _ _ front (λ y h. lt_false n (key y) (omega arith)) below) in
-    let high : entries_above key n back ≡ back = filter_all _ back (each _ _ back (λ y h. lt_true n (key y) h) above) in
-    let not_front : entry_at key n (front ++ (x ∷ back)) ≡ entry_at key n (x ∷ back) =
-    find_after _ front (x ∷ back) (each _ _ front (λ y h. eq_below (key y) n h) below) in (
-      filter-append (λ y. nat_lt (key y) n) front (x ∷ back) ∙ cc (append-nil front),
-      not_front ∙ rw (eq_true (key x) n here) refl,
-      filter-append (λ y. nat_lt n (key y)) front (x ∷ back) ∙ rw (lt_false n (key x) (omega arith)) (cc),
+stands_between key n front back x below here above =
+    let not_low : nat_lt (key x) n ≡ false = lt_false (key x) n (omega arith) in
+    let not_high : nat_lt n (key x) ≡ false = lt_false n (key x) (omega arith) in (
+      rw (filter-append, all_low key n front below, not_low, none_below key n back above, append-nil) refl,
+      not_before key n front (x ∷ back) below ∙ rw (eq_true (key x) n here) refl,
+      rw (filter-append, none_high key n front below, not_high, all_high key n back above) refl,
     )
 
 -- a list cut at one of its entries
@@ -84,25 +91,38 @@ strictly_above key n (y ∷ ys) least sorted other =
     let first : n < key y = above_or_equal n (key y) least.0 (other y ys refl) in
     (first, each _ _ ys (λ z h. omega arith) sorted.0)
 
-pub none_below : {A : Type 0} (key : A → ℕ) (n : ℕ) (xs : List A) → AllByRecursion (λ y. n < key y) xs → entries_below key n xs ≡ []
-none_below key n xs above = filter_none _ xs (each _ _ xs (λ y h. lt_false (key y) n (omega arith)) above)
+-- A sorted list is what stands below a number, its entry, and what stands above it; without the entry it is the other two.
+parted : {A : Type 0} (key : A → ℕ) (n : ℕ) (xs : List A) → IsStrictlySorted key xs
+    → (entries_below key n xs ++ (option_to_list (entry_at key n xs) ++ entries_above key n xs) ≡ xs)
+    × (entries_below key n xs ++ entries_above key n xs ≡ taken_out key n xs)
+parted key n [] sorted = (refl, refl)
+parted {A} key n (x ∷ xs) sorted =
+    let rest = parted key n xs sorted.1 in
+    elim (cases_lt (key x) n) [
+      | inl low ↦ rw (lt_true (key x) n low, lt_false n (key x) (omega arith), eq_below (key x) n low)
+          (ap (λ ys. x ∷ ys) rest.0, ap (λ ys. x ∷ ys) rest.1)
+      | inr up ↦
+          let above : AllByRecursion (λ y. n < key y) xs = each _ _ xs (λ y h. omega arith) sorted.0 in
+          let others : xs ≡ taken_out key n xs = rw (none_below key n xs above, all_high key n xs above) at rest.1 in
+          rw (lt_false (key x) n up, none_below key n xs above, all_high key n xs above, none_there key n xs above)
+          (elim (cases_lt n (key x)) [
+            | inl high ↦ rw (lt_true n (key x) high, eq_above (key x) n high) (refl, ap (λ ys. x ∷ ys) others)
+            | inr le ↦ rw (lt_false n (key x) le, eq_true (key x) n (omega arith)) (refl, others)
+          ])
+    ]
 
--- what stands below and above a number is all but the entry of the number
 pub below_and_above : {A : Type 0} (key : A → ℕ) (n : ℕ) (xs : List A) → IsStrictlySorted key xs
     → entries_below key n xs ++ entries_above key n xs ≡ taken_out key n xs
-below_and_above key n [] sorted = refl
-below_and_above {A} key n (x ∷ xs) sorted =
-    let rest : entries_below key n xs ++ entries_above key n xs ≡ taken_out key n xs = below_and_above key n xs sorted.1 in
-    elim (cases_order (key x) n) [
-      | inl here ↦ rw (lt_false (key x) n (omega arith), lt_false n (key x) (omega arith), eq_true (key x) n here) rest
-      | inr other ↦ elim other [
-        | inl low ↦ rw (lt_true (key x) n low, lt_false n (key x) (omega arith), eq_below (key x) n low) (ap (λ ys. x ∷ ys) rest)
-        | inr high ↦
-            let none : entries_below key n xs ≡ [] = none_below key n xs (each _ _ xs (λ y h. omega arith) sorted.0) in
-            rw (lt_false (key x) n (omega arith), lt_true n (key x) high, eq_above (key x) n high)
-            (rw none (ap (λ ys. x ∷ ys) (sym (ap (λ zs. zs ++ entries_above key n xs) none) ∙ rest)))
-      ]
-    ]
+below_and_above key n xs sorted = (parted key n xs sorted).1
+
+pub split_there : {A : Type 0} (key : A → ℕ) (n : ℕ) (x : A) (xs : List A) → IsStrictlySorted key xs → entry_at key n xs ≡ Some x
+    → xs ≡ entries_below key n xs ++ (x ∷ entries_above key n xs)
+split_there key n x xs sorted found = sym (rw found at (parted key n xs sorted).0)
+
+-- the entry that is there already, placed again, changes nothing
+pub placed_same : {A : Type 0} (key : A → ℕ) (x : A) (xs : List A) → IsStrictlySorted key xs → entry_at key (key x) xs ≡ Some x
+    → placed key x xs ≡ xs
+placed_same key x xs sorted found = sym (split_there key (key x) x xs sorted found)
 
 pub IsStrictlySorted-filter : {A : Type 0} (key : A → ℕ) (p : A → Bool) (xs : List A) → IsStrictlySorted key xs
     → IsStrictlySorted key (filter p xs)
@@ -139,19 +159,17 @@ joined key (y ∷ front) x back sorted below above rest = (
   joined key front x back sorted.1 below.1 above rest,
 )
 
-pub IsStrictlySorted-placed : {A : Type 0} (key : A → ℕ) (x : A) (xs : List A) → IsStrictlySorted key xs
-    → IsStrictlySorted key (placed key x xs)
-IsStrictlySorted-placed key x xs sorted =
-    joined key (entries_below key (key x) xs) x (entries_above key (key x) xs) (IsStrictlySorted-filter key _ xs sorted)
-    (each _ _ _ (λ y h. lt_from _ _ h) (passes (λ y. nat_lt (key y) (key x)) xs))
-    (each _ _ _ (λ y h. lt_from _ _ h) (passes (λ y. nat_lt (key x) (key y)) xs))
-    (IsStrictlySorted-filter key _ xs sorted)
-
 pub all_below : {A : Type 0} (key : A → ℕ) (n : ℕ) (xs : List A) → AllByRecursion (λ y. key y < n) (entries_below key n xs)
 all_below key n xs = each _ _ (entries_below key n xs) (λ y h. lt_from (key y) n h) (passes (λ y. nat_lt (key y) n) xs)
 
 pub all_above : {A : Type 0} (key : A → ℕ) (n : ℕ) (xs : List A) → AllByRecursion (λ y. n < key y) (entries_above key n xs)
 all_above key n xs = each _ _ (entries_above key n xs) (λ y h. lt_from n (key y) h) (passes (λ y. nat_lt n (key y)) xs)
+
+pub IsStrictlySorted-placed : {A : Type 0} (key : A → ℕ) (x : A) (xs : List A) → IsStrictlySorted key xs
+    → IsStrictlySorted key (placed key x xs)
+IsStrictlySorted-placed key x xs sorted =
+    joined key (entries_below key (key x) xs) x (entries_above key (key x) xs) (IsStrictlySorted-filter key _ xs sorted)
+    (all_below key (key x) xs) (all_above key (key x) xs) (IsStrictlySorted-filter key _ xs sorted)
 
 pub found_number : {A : Type 0} (key : A → ℕ) (n : ℕ) (xs : List A) (x : A) → entry_at key n xs ≡ Some x → n ≡ key x
 found_number key n xs x is = eq_from (key x) n (find_passes (λ y. key y == n) xs x is)
@@ -183,111 +201,68 @@ few_in_range key high xs sorted all =
     (each _ _ xs (λ y h. h.most) all) in
     omega arith
 
--- A sorted list is what stands below a number, its entry, and what stands above it.
-pub split_there : {A : Type 0} (key : A → ℕ) (n : ℕ) (x : A) (xs : List A) → IsStrictlySorted key xs → entry_at key n xs ≡ Some x
-    → xs ≡ entries_below key n xs ++ (x ∷ entries_above key n xs)
-split_there key n x [] sorted found = absurd (none_differs x found)
-split_there {A} key n x (y ∷ ys) sorted found =
-    elim (cases_order (key y) n) [
-      | inl here ↦
-          let same : y ≡ x = first_is y x (key y == n) (find (λ z. key z == n) ys) (eq_true (key y) n here) found in
-          let high : entries_above key n ys ≡ ys =
-          filter_all _ ys (each _ _ ys (λ z h. lt_true n (key z) (omega (arith, here))) sorted.0) in
-          let low : entries_below key n ys ≡ [] = filter_none _ ys
-          (each _ _ ys (λ z h. lt_false (key z) n (omega (arith, here))) sorted.0) in
-          rw (lt_false (key y) n (omega arith), lt_false n (key y) (omega arith)) (rw (low, high) (ap (λ z. z ∷ ys) same))
-      | inr other ↦ elim other [
-        | inl less ↦
-            let rest : ys ≡ entries_below key n ys ++ (x ∷ entries_above key n ys) =
-            split_there key n x ys sorted.1 (rw (eq_other (key y) n (λ same. omega arith)) at found) in
-            rw (lt_true (key y) n less, lt_false n (key y) (omega arith)) (ap (λ zs. y ∷ zs) rest)
-        | inr more ↦
-            let none : find (λ z. key z == n) ys ≡ None =
-            find_none _ ys (each _ _ ys (λ z h. eq_other (key z) n (λ same. omega (arith, h))) sorted.0) in
-            absurd (none_differs x (sym none ∙ (rw (eq_other (key y) n (λ same. omega arith)) at found)))
-      ]
+-- what is found after an entry was placed
+pub entry_at-placed : {A : Type 0} (key : A → ℕ) (n : ℕ) (x : A) (xs : List A)
+    → entry_at key n (placed key x xs) ≡ cond (key x == n) (Some x) (entry_at key n xs)
+entry_at-placed key n x xs =
+    let k = key x in
+    find-append (λ y. key y == n) (entries_below key k xs) (x ∷ entries_above key k xs) ∙ elim (cases_lt n k) [
+      | inl high ↦
+          let none = none_there key n (entries_above key k xs) (each _ _ _ (λ y h. omega (arith, h)) (all_above key k xs)) in
+          let front = find_in_filter (λ y. key y == n) (λ y. nat_lt (key y) k) xs (λ y h. equal_below (key y) n k high h) in
+          rw (eq_other k n (λ same. omega arith), none, front) (or_none (entry_at key n xs))
+      | inr le ↦
+          let none : entry_at key n (entries_below key k xs) ≡ None =
+          find_none _ _ (each _ _ _ (λ y h. eq_below (key y) n (omega (arith, h))) (all_below key k xs)) in
+          rw none (elim (cases_lt k n) [
+            | inl low ↦ rw (eq_below k n low)
+                (find_in_filter (λ y. key y == n) (λ y. nat_lt k (key y)) xs (λ y h. equal_above (key y) n k low h))
+            | inr same ↦ rw (eq_true k n (omega arith)) refl
+          ])
     ]
 
--- the entry of a number is the one that was placed there
+-- the entry of a number is the one that was placed there, and those of other numbers are as they were
 pub entry_at-placed_here : {A : Type 0} (key : A → ℕ) (n : ℕ) (x : A) (xs : List A) → key x ≡ n → entry_at key n (placed key x xs) ≡ Some x
-entry_at-placed_here key n x xs here =
-    let none : entry_at key n (entries_below key (key x) xs) ≡ None =
-    find_none _ _ (each _ _ _ (λ y h. below_is_other (key y) n (key x) h (omega (arith, here)))
-    (passes (λ y. nat_lt (key y) (key x)) xs)) in
-    find-append (λ y. key y == n) (entries_below key (key x) xs) (x ∷ entries_above key (key x) xs) ∙ rw (none, eq_true (key x) n here) refl
+entry_at-placed_here key n x xs here = entry_at-placed key n x xs ∙ rw (eq_true (key x) n here) refl
 
--- the entries of other numbers are as they were
 pub entry_at-placed_other : {A : Type 0} (key : A → ℕ) (n : ℕ) (x : A) (xs : List A) → (key x ≡ n → ⊥)
     → entry_at key n (placed key x xs) ≡ entry_at key n xs
-entry_at-placed_other {A} key n x xs other =
-    let split = find-append (λ y. key y == n) (entries_below key (key x) xs) (x ∷ entries_above key (key x) xs) in
-    elim (cases_order (key x) n) [
-      | inl here ↦ absurd (other here)
-      | inr apart ↦ elim apart [
-        | inl low ↦
-            let none : entry_at key n (entries_below key (key x) xs) ≡ None =
-            find_none _ _ (each _ _ _ (λ y h. below_is_other (key y) n (key x) h (omega arith))
-            (passes (λ y. nat_lt (key y) (key x)) xs)) in
-            split ∙ rw (none, eq_other (key x) n other)
-            (find_in_filter (λ y. key y == n) (λ y. nat_lt (key x) (key y)) xs (λ y h. equal_above (key y) n (key x) low h))
-        | inr high ↦
-            let none : entry_at key n (entries_above key (key x) xs) ≡ None =
-            find_none _ _ (each _ _ _ (λ y h. above_is_other (key y) n (key x) h (omega arith))
-            (passes (λ y. nat_lt (key x) (key y)) xs)) in
-            let front : entry_at key n (entries_below key (key x) xs) ≡ entry_at key n xs =
-            find_in_filter (λ y. key y == n) (λ y. nat_lt (key y) (key x)) xs (λ y h. equal_below (key y) n (key x) high h) in
-            split ∙ rw (eq_other (key x) n other, none, front) (or_none (entry_at key n xs))
-      ]
-    ]
+entry_at-placed_other key n x xs other = entry_at-placed key n x xs ∙ rw (eq_other (key x) n other) refl
 
 -- what is there stays there
 pub has_placed : {A : Type 0} (key : A → ℕ) (n : ℕ) (x : A) (xs : List A) → IsTrue (has_entry key n xs)
     → IsTrue (has_entry key n (placed key x xs))
-has_placed {A} key n x xs there =
-    elim (cases_order (key x) n) [
-      | inl here ↦ subst (λ (o : Option A). IsTrue (is_some o)) (sym (entry_at-placed_here key n x xs here)) refl
-      | inr apart ↦ subst (λ (o : Option A). IsTrue (is_some o))
-          (sym (entry_at-placed_other key n x xs (λ here. elim apart [ inl low ↦ omega arith | inr high ↦ omega arith ]))) there
+has_placed key n x xs there = rw (entry_at-placed key n x xs)
+    (elim (key x == n) as (λ b. IsTrue (is_some (cond b (Some x) (entry_at key n xs)))) [ true ↦ refl | false ↦ there ])
+
+-- what stands on both sides of a number and at it is no more than all
+sides : {A : Type 0} (key : A → ℕ) (n : ℕ) (xs : List A)
+    → length (entries_below key n xs) + length (entries_above key n xs) + length (option_to_list (entry_at key n xs)) ≤ length xs
+sides key n [] = omega arith
+sides {A} key n (x ∷ xs) =
+    let rest = sides key n xs in
+    elim (cases_lt (key x) n) [
+      | inl low ↦ rw (lt_true (key x) n low, lt_false n (key x) (omega arith), eq_below (key x) n low) (omega arith)
+      | inr up ↦ rw (lt_false (key x) n up) (elim (cases_lt n (key x)) [
+        | inl high ↦ rw (lt_true n (key x) high, eq_above (key x) n high) (omega arith)
+        | inr le ↦ rw (lt_false n (key x) le, eq_true (key x) n (omega arith)) (omega arith)
+      ])
     ]
 
-pub below_and_above_apart : {A : Type 0} (key : A → ℕ) (n : ℕ) (xs : List A)
-    → length (entries_below key n xs) + length (entries_above key n xs) ≤ length xs
-below_and_above_apart key n [] = omega arith
-below_and_above_apart {A} key n (x ∷ xs) =
-    let rest : length (entries_below key n xs) + length (entries_above key n xs) ≤ length xs = below_and_above_apart key n xs in
-    elim (cases_order (key x) n) [
-      | inl here ↦ rw (lt_false (key x) n (omega arith), lt_false n (key x) (omega arith)) (omega arith)
-      | inr other ↦ elim other [
-        | inl low ↦ rw (lt_true (key x) n low, lt_false n (key x) (omega arith)) (omega arith)
-        | inr high ↦ rw (lt_false (key x) n (omega arith), lt_true n (key x) high) (omega arith)
-      ]
-    ]
+one_there : {A : Type 0} (o : Option A) → IsTrue (is_some o) → length (option_to_list o) ≡ 1
+one_there None there = absurd (false≢true there)
+one_there (Some x) there = refl
 
 pub one_between : {A : Type 0} (key : A → ℕ) (n : ℕ) (xs : List A) → IsTrue (has_entry key n xs)
     → length (entries_below key n xs) + length (entries_above key n xs) < length xs
-one_between key n [] there = absurd (false≢true there)
-one_between {A} key n (x ∷ xs) there =
-    let apart : length (entries_below key n xs) + length (entries_above key n xs) ≤ length xs = below_and_above_apart key n xs in
-    elim (cases_order (key x) n) [
-      | inl here ↦ rw (lt_false (key x) n (omega arith), lt_false n (key x) (omega arith)) (omega arith)
-      | inr other ↦ elim other [
-        | inl low ↦
-            let rest : length (entries_below key n xs) + length (entries_above key n xs) < length xs =
-            one_between key n xs (rw (eq_other (key x) n (λ same. omega arith)) at there) in
-            rw (lt_true (key x) n low, lt_false n (key x) (omega arith)) (omega arith)
-        | inr high ↦
-            let rest : length (entries_below key n xs) + length (entries_above key n xs) < length xs =
-            one_between key n xs (rw (eq_other (key x) n (λ same. omega arith)) at there) in
-            rw (lt_false (key x) n (omega arith), lt_true n (key x) high) (omega arith)
-      ]
-    ]
+one_between key n xs there = omega (arith, sides key n xs, one_there (entry_at key n xs) there)
 
 -- a placing adds one entry at most, and none where the number was there
 pub length-placed : {A : Type 0} (key : A → ℕ) (x : A) (xs : List A) → length (placed key x xs) ≤ length xs + 1
 length-placed key x xs = omega (
   arith,
   length-append (entries_below key (key x) xs) (x ∷ entries_above key (key x) xs),
-  below_and_above_apart key (key x) xs,
+  sides key (key x) xs,
 )
 
 pub length-placed_there : {A : Type 0} (key : A → ℕ) (x : A) (xs : List A) → IsTrue (has_entry key (key x) xs)
@@ -295,39 +270,11 @@ pub length-placed_there : {A : Type 0} (key : A → ℕ) (x : A) (xs : List A) �
 length-placed_there key x xs there = omega
     (arith, length-append (entries_below key (key x) xs) (x ∷ entries_above key (key x) xs), one_between key (key x) xs there)
 
--- the entry that is there already, placed again, changes nothing
-pub placed_same : {A : Type 0} (key : A → ℕ) (x : A) (xs : List A) → IsStrictlySorted key xs → entry_at key (key x) xs ≡ Some x
-    → placed key x xs ≡ xs
-placed_same key x [] sorted found = absurd (none_differs x found)
-placed_same {A} key x (y ∷ ys) sorted found =
-    elim (cases_order (key y) (key x)) [
-      | inl here ↦
-          let same : y ≡ x = first_is y x (key y == key x) (find (λ z. key z == key x) ys) (eq_true (key y) (key x) here) found in
-          let high : entries_above key (key x) ys ≡ ys =
-          filter_all _ ys (each _ _ ys (λ z h. lt_true (key x) (key z) (omega (arith, here))) sorted.0) in
-          let low : entries_below key (key x) ys ≡ [] =
-          filter_none _ ys (each _ _ ys (λ z h. lt_false (key z) (key x) (omega (arith, here))) sorted.0) in
-          rw (lt_false (key y) (key x) (omega arith), lt_false (key x) (key y) (omega arith)) (rw (low, high) (ap (λ z. z ∷ ys) (sym same)))
-      | inr other ↦ elim other [
-        | inl less ↦
-            let rest : placed key x ys ≡ ys = placed_same key x ys sorted.1
-            (rw (eq_other (key y) (key x) (λ same. omega arith)) at found) in
-            rw (lt_true (key y) (key x) less, lt_false (key x) (key y) (omega arith)) (ap (λ zs. y ∷ zs) rest)
-        | inr more ↦
-            let none : find (λ z. key z == key x) ys ≡ None =
-            find_none _ ys (each _ _ ys (λ z h. eq_other (key z) (key x) (λ same. omega (arith, h))) sorted.0) in
-            absurd (none_differs x (sym none ∙ (rw (eq_other (key y) (key x) (λ same. omega arith)) at found)))
-      ]
-    ]
-
 -- of two entries with one number, placed one after the other, the second is there
 pub placed_again : {A : Type 0} (key : A → ℕ) (x y : A) (xs : List A) → key y ≡ key x → placed key y (placed key x xs) ≡ placed key y xs
-placed_again {A} key x y xs same =
-    let below = passes (λ z. nat_lt (key z) (key x)) xs in
-    let above = passes (λ z. nat_lt (key x) (key z)) xs in
-    let all = stands_between key (key x) (entries_below key (key x) xs) (entries_above key (key x) xs) x
-    (each _ _ (entries_below key (key x) xs) (λ z h. lt_from (key z) (key x) h) below) refl
-    (each _ _ (entries_above key (key x) xs) (λ z h. lt_from (key x) (key z) h) above) in
+placed_again key x y xs same =
+    let k = key x in
+    let all = stands_between key k (entries_below key k xs) (entries_above key k xs) x (all_below key k xs) refl (all_above key k xs) in
     let P : ℕ → Type 0 = λ k. entries_below key k (placed key x xs) ++ (y ∷ entries_above key k (placed key x xs))
     ≡ entries_below key k xs ++ (y ∷ entries_above key k xs) in
     subst P (sym same) (rw (all.0, all.2) refl)
