@@ -1,5 +1,5 @@
 -- The same text read under finer cue numbers: the definitions take the limits of a text as one record.
-use Rattle.lx_spec.proofs.Imports.{◌≡◌, ℕ, Result, Ok, Err, List, [], ◌∷◌, map, refl, codes, arith, Moves, Shape, desk_limits, read_cue_no}
+use Rattle.lx_spec.proofs.Imports.{◌≡◌, Result, Ok, Err, [], ◌∷◌, map, refl, codes, arith, Moves, Shape, desk_limits, read_cue_no}
 use Rattle.lx_spec.proofs.Imports.{decimal_text, Reading, reads_under}
 use Rattle.std.specs.Fmt.{digits}
 use Rattle.lx_spec.specs.declared.TextFault.{TextFault}

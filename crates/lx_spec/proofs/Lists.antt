@@ -2,7 +2,7 @@
 use Rattle.lx_spec.proofs.Imports.{◌≡◌, ℕ, zero, suc, ◌-◌, ◌<◌, ◌≤◌, Bool, true, false, cond, List, [], ◌∷◌, ◌++◌, length}
 use Rattle.lx_spec.proofs.Imports.{get_or, take, drop, Some, None, refl, ◌∙◌, sym, ap, subst, inl, inr, arith, Bor, Option, IfSome, filter, find, map}
 use Rattle.lx_spec.proofs.Imports.{reverse, option_to_list, option_map, option_and_then, slice_get, ◌&&◌, option_copied, option_map_or, option_or}
-use Rattle.lx_spec.proofs.Imports.{AllByRecursion, refill, reverse-cons, cases_Bool, false≢true, length-reverse, get_or-reverse, append-nil, reverse-append}
+use Rattle.lx_spec.proofs.Imports.{AllByRecursion, refill, reverse-cons, cases_Bool, length-reverse, get_or-reverse, append-nil, reverse-append}
 use Rattle.lx_spec.proofs.Imports.{map-append, filter-append}
 use Rattle.std.proofs.Math.Seq.{take-append_seam}
 use Rattle.std.proofs.lemmas.Option.{slice_get-get_or}

@@ -1,11 +1,10 @@
 -- A cue with moves for the channels that pass a test.
-use Rattle.lx_spec.proofs.Imports.{◌≡◌, ℕ, zero, suc, ◌+◌, ◌<◌, ◌≤◌, Bool, true, false, cond, List, [], ◌∷◌, map, Some, None, refl}
-use Rattle.lx_spec.proofs.Imports.{◌∙◌, sym, ap, inl, inr, arith, Option, filter, fold, is_some, nat_lt, ◌==◌, ◌&&◌, ◌||◌, option_map_or}
-use Rattle.lx_spec.proofs.Imports.{list_any, range_with_len, cases_order, cases_lt, true≢false, nat_tests, find-append, Move, entry_at, entries_below}
-use Rattle.lx_spec.proofs.Imports.{entries_above, placed, Cue, Show, InRange, move_in, channels_of, moves_for, with_moves}
+use Rattle.lx_spec.proofs.Imports.{◌≡◌, ℕ, zero, suc, ◌+◌, ◌<◌, ◌≤◌, Bool, true, false, cond, List, [], ◌∷◌, map, Some, refl}
+use Rattle.lx_spec.proofs.Imports.{◌∙◌, sym, ap, inl, inr, arith, Option, filter, fold, is_some, ◌==◌, ◌&&◌, ◌||◌, option_map_or}
+use Rattle.lx_spec.proofs.Imports.{list_any, range_with_len, cases_lt, true≢false, nat_tests, Move, entry_at}
+use Rattle.lx_spec.proofs.Imports.{placed, Cue, Show, InRange, move_in, channels_of, moves_for, with_moves}
 use Rattle.lx_spec.proofs.Along.{tracked_on}
-use Rattle.lx_spec.proofs.Comparisons.{eq_other, eq_true, equal_above, equal_below}
-use Rattle.lx_spec.proofs.Lists.{each, find_in_filter, find_none, or_none}
+use Rattle.lx_spec.proofs.Comparisons.{eq_true}
 use Rattle.lx_spec.proofs.SortedLists.{entry_at-placed}
 
 -- a move in part 1 at the channel's level

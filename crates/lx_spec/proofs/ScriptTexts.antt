@@ -1,5 +1,5 @@
 -- Whole inputs of the examples: a show's lines and a script's lines, and the text that is written for them.
-use Rattle.lx_spec.proofs.Imports.{◌≡◌, ℕ, ◌==◌, List, [], ◌∷◌, ◌++◌, flat_map, map, codes, if◌then◌else◌, Moves, Render, script_output}
+use Rattle.lx_spec.proofs.Imports.{◌≡◌, ℕ, ◌==◌, List, [], ◌∷◌, ◌++◌, map, codes, if◌then◌else◌, Moves, Render, script_output}
 
 -- the lines that stand between bars
 abbrev pub barred : List ℕ → List ℕ

@@ -1,14 +1,14 @@
 -- Lists that are sorted by a number of their entries: cut at a number, filtered, changed, and with an entry placed.
 use Rattle.lx_spec.proofs.Imports.{◌≡◌, ℕ, zero, suc, ◌+◌, ◌-◌, ◌<◌, ◌≤◌, Bool, true, false, cond, List, [], ◌∷◌, ◌++◌}
 use Rattle.lx_spec.proofs.Imports.{length, get_or, take, drop, Some, None, refl, ◌∙◌, sym, ap, subst, inl, inr, arith, Option, IfSome, IsTrue, filter}
-use Rattle.lx_spec.proofs.Imports.{find, map, is_some, nat_lt, ◌==◌, AllByRecursion, cases_order, false≢true, cases_lt, option_to_list, take-append-drop, drop_more, append-nil}
+use Rattle.lx_spec.proofs.Imports.{map, is_some, nat_lt, ◌==◌, AllByRecursion, false≢true, cases_lt, option_to_list, take-append-drop, drop_more, append-nil}
 use Rattle.lx_spec.proofs.Imports.{length-append, filter-append, All-from_recursion, find-append, InRange, IsStrictlySorted, entry_at, has_entry, entries_below}
 use Rattle.lx_spec.proofs.Imports.{entries_above, placed, taken_out}
 use Rattle.std.specs.List.Sorted.{IsNonDecreasingBy}
 use Rattle.lx_spec.proofs.Comparisons.{lt_true, lt_false, lt_from, eq_true, eq_other, eq_below, eq_above, eq_from, above_or_equal}
-use Rattle.lx_spec.proofs.Comparisons.{equal_below, equal_above, below_is_other, above_is_other}
+use Rattle.lx_spec.proofs.Comparisons.{equal_below, equal_above}
 use Rattle.lx_spec.proofs.Lists.{each, all_append, kept_by, passes, filter_all, filter_none, find_none, find_after, find_passes, find_has}
-use Rattle.lx_spec.proofs.Lists.{find_in_filter, first_is, none_differs, or_none}
+use Rattle.lx_spec.proofs.Lists.{find_in_filter, or_none}
 
 -- a list cut at one of its entries
 pub seam : {A : Type 0} (xs : List A) (at : ℕ) (x : A) → at < length xs → x ≡ get_or xs at x → xs ≡ take at xs ++ (x ∷ drop (at + 1) xs)
