@@ -6,7 +6,7 @@ use Rattle.lx_spec.proofs.Imports.{option_or, option_map_or, cases_order, cases_
 use Rattle.lx_spec.proofs.Imports.{IsStrictlySorted, entry_at, entries_below, entries_above, placed, Cue, Show, InRange, tracked, cue_of, cue_above, cue_only}
 use Rattle.lx_spec.proofs.Imports.{kept_above, with_cue, with_moves, moves_for}
 use Rattle.lx_spec.proofs.Along.{tracked_on, along, tracked-along, along-append, along-past, along-same, step_in}
-use Rattle.lx_spec.proofs.MovesFor.{on_passing, on_other}
+use Rattle.lx_spec.proofs.MovesFor.{on_moves}
 use Rattle.lx_spec.proofs.Comparisons.{eq_other, lt_false, lt_true}
 use Rattle.lx_spec.proofs.Lists.{all_append, each, filter_all, filter_none, find_none}
 
@@ -69,8 +69,8 @@ tracked_first show n k c below here above x around le =
     ∙ along-past x.number c (tracked_on c x (along x.number c 0 (below ++ here))) above around.sorted.0
     ∙ ap (tracked_on c x) (along-same x.number k c 0 (below ++ here) (up_to x.number first) (up_to k (omega arith)))
 
-equal_is : (a b : ℕ) → not (a == b) ≡ false → a ≡ b
-equal_is a b same = grind (arith, nat_tests)
+unless_equal : (a b : ℕ) → cond (not (a == b)) a b ≡ a
+unless_equal a b = grind (arith, nat_tests)
 
 -- the cue above the number is the first of those above it
 pub above_is : (show : Show) (n : ℕ) (below here above : List Cue) → IsAround n show.cues below here above
@@ -95,16 +95,12 @@ keeps_level : (before after : Show) (n k c : ℕ) (below here other above : List
     → IsAround n before.cues below here (x ∷ above) → IsAround n after.cues below other (x ∷ above) → x.number ≤ k
     → tracked_on c (kept before after x) (along k c 0 (below ++ other)) ≡ tracked_on c x (along k c 0 (below ++ here))
 keeps_level before after n k c below here other above x range around now le =
-    let test : ℕ → Bool = λ d. not (tracked before x.number d == tracked after x.number d) in
-    let first : tracked before x.number c ≡ tracked_on c x (along k c 0 (below ++ here)) =
-    tracked_first before n k c below here above x around le in
-    let first_now : tracked after x.number c ≡ tracked_on c x (along k c 0 (below ++ other)) =
-    tracked_first after n k c below other above x now le in
-    elim (cases_Bool (test c)) [
-      | inl differs ↦ on_passing before x test (λ d. tracked before x.number d) c (along k c 0 (below ++ other)) range differs ∙ first
-      | inr same ↦ on_other before x test (λ d. tracked before x.number d) c (along k c 0 (below ++ other)) range same ∙ sym first_now
-          ∙ sym (equal_is (tracked before x.number c) (tracked after x.number c) same) ∙ first
-    ]
+    let was = tracked before x.number c in
+    on_moves before x (λ d. not (tracked before x.number d == tracked after x.number d)) (tracked before x.number) c
+    (along k c 0 (below ++ other)) range
+    ∙ ap (cond (not (was == tracked after x.number c)) was) (sym (tracked_first after n k c below other above x now le))
+    ∙ unless_equal was (tracked after x.number c)
+    ∙ tracked_first before n k c below here above x around le
 
 -- the show after the edit alone, and the show in which the cue above keeps its levels
 pub kept_around : (before after : Show) (n : ℕ) (below other above : List Cue) (x : Cue) → IsAround n after.cues below other (x ∷ above)
