@@ -9,7 +9,7 @@ use Rattle.lx_spec.proofs.Imports.{blocked, unblocked, cue_alone, is_block_edit}
 use Rattle.lx_spec.proofs.Along.{tracked_on, along, tracked-along, along-append, along-past, along-same, step_in, step_out}
 use Rattle.lx_spec.proofs.MovesFor.{on_moves}
 use Rattle.lx_spec.proofs.CueOnly.{IsAround, kept_alone, tracked_low}
-use Rattle.lx_spec.proofs.Lists.{each}
+use Rattle.lx_spec.proofs.Lists.{decided, each}
 use Rattle.lx_spec.proofs.SortedLists.{below_and_above, IsStrictlySorted-filter, all_above, all_below, entry_number, found_valid, split_there}
 
 -- a step that was not refused
@@ -109,11 +109,6 @@ unblock_level : (o : Option Move) (before : ℕ)
 unblock_level None before = grind (arith, nat_tests)
 unblock_level (Some m) before = refl
 
--- what holds of each of two cues holds of the one that a test chooses
-either_cue : (b : Bool) (x y : Cue) (P : Cue → Type 0) → (b ≡ true → P x) → (b ≡ false → P y) → P (cond b x y)
-either_cue true x y P one other = one refl
-either_cue false x y P one other = other refl
-
 -- the law of block, on one channel at one number
 module _ (show : Show) (k c : ℕ) (valid : Valid show) (range : InRange show.channels c) (n : ℕ) (cue : Cue) (found : cue_of show n ≡ Some cue) where
   -- the level that is tracked into the cue
@@ -167,7 +162,7 @@ module _ (show : Show) (k c : ℕ) (valid : Valid show) (range : InRange show.ch
 
   -- a cue that becomes a block cue takes over what tracks into it
   with_block : tracked (with_cue show (blocked show cue)) k c ≡ tracked show k c
-  with_block = either_cue cue.block cue _ (λ x. tracked (with_cue show x) k c ≡ tracked show k c)
+  with_block = decided (λ x. tracked (with_cue show x) k c ≡ tracked show k c) cue.block cue _
       (λ blocks. same_there cue refl (λ le. refl)) (λ free. same_there _ refl (λ le.
       let here : tracked show cue.number c ≡ tracked_on c cue into = rw at_number (tracked_here le) in
       let open_step : tracked_on c cue into ≡ cond (is_some (move_in cue c)) (level_in cue c) into = rw free refl in
@@ -176,7 +171,7 @@ module _ (show : Show) (k c : ℕ) (valid : Valid show) (range : InRange show.ch
 
   -- a block cue that becomes none brings to 0 what would track into it
   without_block : 1 ≤ n → tracked (with_cue show (unblocked show cue)) k c ≡ tracked show k c
-  without_block least = either_cue cue.block _ cue (λ x. tracked (with_cue show x) k c ≡ tracked show k c)
+  without_block least = decided (λ x. tracked (with_cue show x) k c ≡ tracked show k c) cue.block _ cue
       (λ blocks. same_there _ refl (λ le.
       let under : tracked show (cue.number - 1) c ≡ into = rw at_number (tracked_before least le) in
       let closed_step : tracked_on c cue into ≡ level_in cue c = rw blocks refl in

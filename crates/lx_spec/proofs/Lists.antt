@@ -8,6 +8,11 @@ use Rattle.std.proofs.Math.Seq.{take-append_seam}
 use Rattle.std.proofs.lemmas.Option.{slice_get-get_or}
 use Rattle.lx_spec.proofs.Comparisons.{and_known}
 
+-- what holds of each of two values holds of the one that a test chooses
+pub decided : {A : Type 0} (P : A → Type 0) (b : Bool) (x y : A) → (b ≡ true → P x) → (b ≡ false → P y) → P (cond b x y)
+decided P true x y one other = one refl
+decided P false x y one other = other refl
+
 pub each : {A : Type 0} (P Q : A → Type 0) (xs : List A) → ((x : A) → P x → Q x) → AllByRecursion P xs → AllByRecursion Q xs
 each P Q [] f all = all
 each P Q (x ∷ xs) f all = (f x all.0, each P Q xs f all.1)
