@@ -21,7 +21,7 @@ pub use Rattle.lx_spec.specs.Numerals.{decimal_text, decimal_value, decimals, ha
 pub use Rattle.lx_spec.specs.Numerals.{level_text, number_of, ranged, read_cue_no, read_level, read_minutes, read_seconds, read_time, read_whole, time_text}
 pub use Rattle.lx_spec.specs.Numerals.{whole_part}
 pub use Rattle.lx_spec.specs.Playback.{appended, at_opening, at_rest, follow_of, followed, has_room, if_room, is_due, is_over, Playback, Played, position_of}
-pub use Rattle.lx_spec.specs.Playback.{press, rested, run_of, run_whole, start_above, tick, ticked}
+pub use Rattle.lx_spec.specs.Playback.{no_run, press, rested, run_of, run_whole, start_above, tick, ticked}
 pub use Rattle.lx_spec.specs.Reading.{Reading, reads, reads_under}
 pub use Rattle.lx_spec.specs.Run.{acts, delay_of, entry_extent, entry_for, extent, first_entry, Run, time_of}
 pub use Rattle.lx_spec.specs.Script.{alone, cue_edit, cue_number, delete_line, fader_line, follow_line, frame_line, goto_line, group_line, label_line, line_of}
