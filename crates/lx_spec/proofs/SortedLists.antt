@@ -53,7 +53,7 @@ module _ {A : Type 0} (key : A → ℕ) where
   pub none_below : (n : ℕ) (xs : List A) → AllByRecursion (λ y. n < key y) xs → entries_below key n xs ≡ []
   none_below n xs above = filter_none _ xs (each _ _ xs (λ y h. lt_false (key y) n (omega arith)) above)
 
-  none_there : (n : ℕ) (xs : List A) → AllByRecursion (λ y. n < key y) xs → entry_at key n xs ≡ None
+  pub none_there : (n : ℕ) (xs : List A) → AllByRecursion (λ y. n < key y) xs → entry_at key n xs ≡ None
   none_there n xs above = find_none _ xs (each _ _ xs (λ y h. eq_above (key y) n h) above)
 
   not_before : (n : ℕ) (front back : List A) → AllByRecursion (λ y. key y < n) front → entry_at key n (front ++ back) ≡ entry_at key n back
