@@ -1,9 +1,9 @@
 -- Law of cue only, on one channel: the cues below the edited one are as they were, and the first above it comes to the level that
 -- it had there.
-use Rattle.lx_spec.proofs.Imports.{◌≡◌, ◌≢◌, ℕ, ◌<◌, ◌≤◌, Bool, true, false, cond, not, List, [], ◌∷◌, ◌++◌, Some, None, refl}
-use Rattle.lx_spec.proofs.Imports.{◌∙◌, sym, ap, inl, inr, arith, append_assoc, Option, IsTrue, find, filter, is_some, nat_lt, ◌==◌, AllByRecursion}
-use Rattle.lx_spec.proofs.Imports.{option_or, option_map_or, cases_order, cases_lt, cases_Bool, false≢true, nat_tests, filter-append, find-append, append-nil}
-use Rattle.lx_spec.proofs.Imports.{IsStrictlySorted, entry_at, entries_below, entries_above, placed, Cue, Show, InRange, tracked, cue_of, cue_above, cue_only}
+use Rattle.lx_spec.proofs.Imports.{◌≡◌, ◌≢◌, ℕ, ◌<◌, ◌≤◌, Bool, true, false, cond, not, List, [], ◌∷◌, ◌++◌, Some, refl}
+use Rattle.lx_spec.proofs.Imports.{◌∙◌, sym, ap, inl, inr, arith, append_assoc, Option, IsTrue, find, is_some, nat_lt, ◌==◌, AllByRecursion}
+use Rattle.lx_spec.proofs.Imports.{option_map_or, cases_lt, false≢true, nat_tests}
+use Rattle.lx_spec.proofs.Imports.{IsStrictlySorted, entry_at, placed, Cue, Show, InRange, tracked, cue_of, cue_above, cue_only}
 use Rattle.lx_spec.proofs.Imports.{kept_above, with_cue, with_moves, moves_for}
 use Rattle.lx_spec.proofs.Along.{tracked_on, along, tracked-along, along-append, along-past, along-same, step_in}
 use Rattle.lx_spec.proofs.MovesFor.{on_moves}

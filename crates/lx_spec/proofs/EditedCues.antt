@@ -1,10 +1,10 @@
 -- Edits of one cue, by what stands around it: the laws of cue only and of block.
-use Rattle.lx_spec.proofs.Imports.{◌≡◌, ◌≢◌, ℕ, ◌+◌, ◌-◌, ◌≤◌, Bool, true, false, cond, not, List, [], ◌∷◌, ◌++◌, map, Some, None}
-use Rattle.lx_spec.proofs.Imports.{Ok, Err, refl, ◌∙◌, sym, ap, subst, inl, inr, arith, Option, Result, IsTrue, find, is_some, is_none, ◌==◌}
-use Rattle.lx_spec.proofs.Imports.{◌&&◌, ◌||◌, option_map_or, AllByRecursion, cases_lt, cases_Bool, false≢true, nat_tests, Edit, DeleteCue, Set}
+use Rattle.lx_spec.proofs.Imports.{◌≡◌, ◌≢◌, ℕ, ◌+◌, ◌-◌, ◌≤◌, true, false, cond, not, List, [], ◌∷◌, ◌++◌, map, Some, None}
+use Rattle.lx_spec.proofs.Imports.{Ok, Err, refl, ◌∙◌, sym, ap, inl, inr, arith, Option, Result, IsTrue, is_some, is_none, ◌==◌}
+use Rattle.lx_spec.proofs.Imports.{◌&&◌, option_map_or, AllByRecursion, cases_lt, false≢true, nat_tests, Edit, DeleteCue, Set}
 use Rattle.lx_spec.proofs.Imports.{SetGroup, Release, Block, Unblock, Move, Refusal, ◌>>=◌, IsStrictlySorted, entries_below, entries_above, Cue, Show}
 use Rattle.lx_spec.proofs.Imports.{Valid, ValidCue, InRange, tracked, cue_of, move_in, level_in, edited, cue_only, the_cue, the_given_part, the_channels}
-use Rattle.lx_spec.proofs.Imports.{the_group, the_moves, with_cue, without_cue, with_levels, without_moves, all_at, in_proportion, with_moves, moves_for}
+use Rattle.lx_spec.proofs.Imports.{the_group, the_moves, with_cue, without_cue, with_levels, without_moves, all_at, in_proportion}
 use Rattle.lx_spec.proofs.Imports.{blocked, unblocked, cue_alone, is_block_edit}
 use Rattle.lx_spec.proofs.Along.{tracked_on, along, tracked-along, along-append, along-past, along-same, step_in, step_out}
 use Rattle.lx_spec.proofs.MovesFor.{on_moves}

@@ -4,7 +4,7 @@ pub use Rattle.std.proofs.Common.{◌≡◌, ◌≢◌, ◌≤◌, ap, append-ni
 pub use Rattle.std.proofs.Common.{flat_map, fold, get_or, IfOk, IfSome, if◌then◌else◌, inl, inr, is_none, is_some, IsTrue, length, length-append}
 pub use Rattle.std.proofs.Common.{length-take, List, map, max, mul_assoc, nat_le, nat_lt, None, not, Ok, Option, option_and_then, option_map, option_to_list}
 pub use Rattle.std.proofs.Common.{refl, replicate, Result, reverse, slice_get, slice_set, Some, subst, suc, sym, take, take-append-drop, take-take, take_all}
-pub use Rattle.std.proofs.Common.{true, true≢false, unwrap_or, zero}
+pub use Rattle.std.proofs.Common.{true, unwrap_or, zero}
 pub use Rattle.lx_base.specs.declared.TheConstants.{BACK_TIME, CUE_MAX, CUE_UNIT, CUES, DIMMERS, GROUPS, LABEL_BYTES, LINE_BYTES, PARTS, SUBS, TICK_END}
 pub use Rattle.lx_base.specs.declared.TheConstants.{TICK_STEP, TICKS, TIME_MAX, UNIVERSES}
 pub use Rattle.lx_spec.specs.CheckOutput.{check_output}

@@ -1,6 +1,6 @@
 -- A cue with moves for the channels that pass a test.
 use Rattle.lx_spec.proofs.Imports.{◌≡◌, ℕ, zero, suc, ◌+◌, ◌<◌, ◌≤◌, Bool, true, false, cond, List, [], ◌∷◌, map, Some, refl}
-use Rattle.lx_spec.proofs.Imports.{◌∙◌, sym, ap, inl, inr, arith, Option, filter, fold, is_some, ◌==◌, ◌&&◌, ◌||◌, option_map_or}
+use Rattle.lx_spec.proofs.Imports.{◌∙◌, ap, inl, inr, arith, Option, filter, fold, is_some, ◌==◌, ◌&&◌, ◌||◌, option_map_or}
 use Rattle.lx_spec.proofs.Imports.{list_any, range_with_len, cases_lt, cases_Bool, nat_tests, Move, entry_at}
 use Rattle.lx_spec.proofs.Imports.{placed, Cue, Show, InRange, move_in, channels_of, moves_for, with_moves}
 use Rattle.lx_spec.proofs.Along.{tracked_on}

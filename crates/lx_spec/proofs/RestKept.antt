@@ -1,11 +1,11 @@
 -- Every command keeps what lets the runs before the last rest be forgotten.
-use Rattle.lx_spec.proofs.Imports.{◌≡◌, ℕ, ◌+◌, ◌-◌, ◌≤◌, max, Bool, true, false, cond, ◌&&◌, ◌==◌, nat_lt, nat_le, Option, Some}
-use Rattle.lx_spec.proofs.Imports.{None, Result, Ok, Err, List, [], ◌∷◌, refl, map, fold, is_some, is_none, length, if◌then◌else◌, unwrap_or}
-use Rattle.lx_spec.proofs.Imports.{option_and_then, IfOk, slice_set, AllByRecursion, list_all, option_map_or, result_unwrap_or, arith, ap, ◌∙◌, nat_tests}
-use Rattle.lx_spec.proofs.Imports.{PartTimes, Go, Back, Goto, Settle, Play, Fader, Master, Command, Refusal, PlaybackFull, NoCueAfter, NoCueBefore, TickLimit}
-use Rattle.lx_spec.proofs.Imports.{AbsentSub, BACK_TIME, TICK_STEP, TICK_END, ◌>>=◌, entry_at, has_entry, Show, Cue, tracked, move_of, asserts, cue_above}
+use Rattle.lx_spec.proofs.Imports.{◌≡◌, ℕ, ◌+◌, ◌-◌, ◌≤◌, max, Bool, true, false, ◌==◌, nat_le, Option, Some}
+use Rattle.lx_spec.proofs.Imports.{None, Result, Ok, Err, List, [], ◌∷◌, refl, map, fold, is_some, if◌then◌else◌}
+use Rattle.lx_spec.proofs.Imports.{IfOk, slice_set, AllByRecursion, list_all, option_map_or, result_unwrap_or, arith, ap, ◌∙◌, nat_tests}
+use Rattle.lx_spec.proofs.Imports.{PartTimes, Go, Back, Goto, Settle, Play, Fader, Master, Command, Refusal, PlaybackFull, TickLimit}
+use Rattle.lx_spec.proofs.Imports.{AbsentSub, BACK_TIME, TICK_STEP, TICK_END, ◌>>=◌, has_entry, Show, Cue, tracked, move_of, asserts, cue_above}
 use Rattle.lx_spec.proofs.Imports.{cue_below, Run, first_entry, entry_for, entry_extent, extent, time_of, delay_of, acts, level, last_cue, run_over, fade_over}
-use Rattle.lx_spec.proofs.Imports.{rises_to, edited, the_cue, Playback, Played, press, tick, ticked, followed, start_above, rested, at_rest, is_over, is_due}
+use Rattle.lx_spec.proofs.Imports.{rises_to, edited, the_cue, Played, press, tick, ticked, followed, start_above, rested, at_rest, is_over, is_due}
 use Rattle.lx_spec.proofs.Imports.{has_room, no_run, appended, if_room, run_of, run_whole, follow_of, position_of, Desk, opened, step, after_play, after_command}
 use Rattle.lx_spec.proofs.Imports.{replay, KeepsRest, IsInstant}
 use Rattle.lx_spec.specs.declared.PlayKey.{PlayKey}

@@ -1,13 +1,13 @@
 -- Each command that a script line means is valid.
-use Rattle.lx_spec.proofs.Imports.{◌≡◌, ℕ, zero, suc, ◌+◌, ◌-◌, ◌*◌, ◌/◌, ◌^◌, ◌<◌, ◌≤◌, Bool, true, false, cond}
-use Rattle.lx_spec.proofs.Imports.{◌&&◌, inl, inr, cases_Bool, nat_lt, nat_le, Option, Some, None, Result, Ok, Err, List, [], ◌∷◌, length, fold, find, codes, refl}
+use Rattle.lx_spec.proofs.Imports.{◌≡◌, ℕ, zero, suc, ◌+◌, ◌-◌, ◌*◌, ◌/◌, ◌^◌, ◌<◌, ◌≤◌, Bool, true, false}
+use Rattle.lx_spec.proofs.Imports.{◌&&◌, inl, inr, cases_Bool, nat_lt, nat_le, Option, Some, None, Result, Ok, Err, List, [], ◌∷◌, length, fold, find, codes}
 use Rattle.lx_spec.proofs.Imports.{option_map, IfSome, IfOk, option_map_or, AllByRecursion, list_all, list_any, before_first, after_first, position_or_len}
 use Rattle.lx_spec.proofs.Imports.{arith, ap, sym, subst, ◌∙◌, mul_assoc, drop_all, nat_tests, CUE_MAX, PARTS, GROUPS, SUBS, DIMMERS, UNIVERSES}
-use Rattle.lx_spec.proofs.Imports.{LINE_BYTES, TICKS, TIME_MAX, Shape, Range, Edit, desk_limits, tokens, is_word, is_filled, is_digit, is_number, number_of}
+use Rattle.lx_spec.proofs.Imports.{LINE_BYTES, TICKS, TIME_MAX, Shape, Range, Edit, desk_limits, tokens, is_word, is_digit, is_number, number_of}
 use Rattle.lx_spec.proofs.Imports.{ranged, read_whole, is_point, whole_part, has_point, decimals, is_decimal, decimal_value, read_seconds, is_colon, is_minutes}
-use Rattle.lx_spec.proofs.Imports.{read_minutes, read_time, read_cue_no, InRange, IsTime, cue_number, time, cue_edit, part_edit, set_channels, set_group}
-use Rattle.lx_spec.proofs.Imports.{set_line, delete_line, release_line, time_edit, time_line, follow_line, label_line, group_line, sub_line, patch_line}
-use Rattle.lx_spec.proofs.Imports.{unpatch_line, fader_line, master_line, goto_line, tick_line, frame_line, sheet_line, alone, sentences, meaning, line_of}
+use Rattle.lx_spec.proofs.Imports.{read_minutes, read_time, read_cue_no, InRange, IsTime, cue_number, time, cue_edit, part_edit, set_channels}
+use Rattle.lx_spec.proofs.Imports.{set_line, time_edit, time_line, follow_line}
+use Rattle.lx_spec.proofs.Imports.{tick_line, frame_line, alone, sentences, meaning, line_of}
 use Rattle.std.proofs.Math.Nat.{pow-succ', div-lt_iff_lt-mul}
 use Rattle.lx_base.specs.Numbers.{Span}
 use Rattle.lx_spec.specs.declared.Bad.{Bad}
