@@ -1,79 +1,55 @@
 -- A show file as a desk might write it: what it means as moves and as looks, whole and cut short, by computation.
-use Rattle.lx_spec.proofs.Imports.{◌≡◌, ℕ, List, [], ◌∷◌, ◌++◌, refl, codes, Moves, States, check_output, Render, script_output}
+use Rattle.lx_spec.proofs.Imports.{◌≡◌, ℕ, List, [], ◌∷◌, ◌++◌, ◌==◌, map, flat_map, if◌then◌else◌, refl, codes, Moves, States, check_output}
+use Rattle.lx_spec.proofs.Imports.{Render, script_output}
 use Rattle.std.specs.Fmt.{digits}
-use Rattle.lx_spec.proofs.ScriptTexts.{text, crlf_text}
+use Rattle.lx_spec.proofs.ScriptTexts.{barred}
 
-abbrev uncut : List (List ℕ)
-uncut =
-    codes "IDENT 3:0" ∷ codes "MANUFACTURER EXAMPLE" ∷ codes "CONSOLE DESK" ∷ codes "CLEAR ALL" ∷ codes "SET CHANNELS 24" ∷ codes
-    "! front of house" ∷ codes "PATCH 1 1<1@100 2<2@100 3<3@50"
-    ∷ codes "$SPECIAL 7" ∷ codes "CHAN 1@30" ∷ codes "CUE 1" ∷ codes "TEXT Preset" ∷ codes "UP 3" ∷ codes "DOWN 3" ∷ codes "$$SNAP 1"
-    ∷ codes "CHAN 1@50 2@100" ∷ codes "CUE 2" ∷ codes "UP 5" ∷ codes "DOWN 5 1" ∷ codes "CHAN 1@50 3@FL" ∷ codes "CUE 3" ∷ codes
-    "CHAN 2@100" ∷ []
+-- the file up to its last cue, without its end, and whole, each as lines between bars
+abbrev front : List ℕ
+front =
+    codes "IDENT 3:0|MANUFACTURER EXAMPLE|CONSOLE DESK|CLEAR ALL|SET CHANNELS 24|! front of house|PATCH 1 1<1@100 2<2@100 3<3@50|"
+    ++ codes "$SPECIAL 7|CHAN 1@30|CUE 1|TEXT Preset|UP 3|DOWN 3|$$SNAP 1|CHAN 1@50 2@100|CUE 2|UP 5|DOWN 5 1|CHAN 1@50 3@FL|CUE 3"
 
-abbrev file : List (List ℕ)
-file = uncut ++ codes "ENDDATA" ∷ []
+abbrev uncut : List ℕ
+uncut = front ++ codes "|CHAN 2@100"
 
--- three lines are skipped, the first of them a manufacturer's record
-checked : check_output Moves (text file)
-    ≡ text (codes "show cues 3 channels 24 skipped 3 first 8" ∷ [])
+abbrev file : List ℕ
+file = uncut ++ codes "|ENDDATA"
+
+-- the text with a CR before each LF
+abbrev with_cr : List ℕ → List ℕ
+with_cr bytes = flat_map (λ b. if b == 10 then 13 ∷ 10 ∷ [] else b ∷ []) bytes
+
+-- three lines are skipped, the first of them a manufacturer's record; a CR before each LF changes nothing
+checked : map (check_output Moves) (barred file ∷ with_cr (barred file) ∷ [])
+    ≡ barred (codes "show cues 3 channels 24 skipped 3 first 8") ∷ barred (codes "show cues 3 channels 24 skipped 3 first 8") ∷ []
 unfolding digits
 checked = refl
 
--- a CR before each LF changes nothing
-checked_with_cr : check_output Moves (crlf_text file)
-    ≡ text (codes "show cues 3 channels 24 skipped 3 first 8" ∷ [])
-unfolding digits
-checked_with_cr = refl
-
 -- read as moves, levels track from cue to cue
-as_moves : script_output Render Moves (text (file ++ codes "sheet 1" ∷ codes "sheet 2" ∷ codes "sheet 3" ∷ [])) []
-    ≡ text (codes "row 1 1=128 2=255" ∷ codes "row 2 1=128 2=255 3=255" ∷ codes "row 3 1=128 2=255 3=255" ∷ [])
+as_moves : script_output Render Moves (barred (file ++ codes "|sheet 1|sheet 2|sheet 3")) []
+    ≡ barred (codes "row 1 1=128 2=255|row 2 1=128 2=255 3=255|row 3 1=128 2=255 3=255")
 unfolding digits
 as_moves = refl
 
 -- read as looks, what a cue does not name is 0 in it
-as_looks : script_output Render States (text (file ++ codes "sheet 1" ∷ codes "sheet 2" ∷ codes "sheet 3" ∷ [])) []
-    ≡ text (codes "row 1 1=128 2=255" ∷ codes "row 2 1=128 3=255" ∷ codes "row 3 2=255" ∷ [])
+as_looks : script_output Render States (barred (file ++ codes "|sheet 1|sheet 2|sheet 3")) []
+    ≡ barred (codes "row 1 1=128 2=255|row 2 1=128 3=255|row 3 2=255")
 unfolding digits
 as_looks = refl
 
 -- the moves that make these looks
-moves_of_looks : script_output Render States (text (file ++ codes "save" ∷ [])) []
-    ≡ text (codes "IDENT 3:0" ∷ codes "SET CHANNELS 24" ∷ codes "PATCH 1 1<1@HFF" ∷ codes "PATCH 1 2<2@HFF" ∷ codes "PATCH 1 3<3@H80" ∷
-    codes "CUE 1" ∷ codes "TEXT Preset" ∷ codes "PART 1" ∷ codes "UP 3 0" ∷ codes "DOWN 3 0" ∷ codes "CHAN 1@H80" ∷ codes "CHAN 2@HFF" ∷
-    codes "CUE 2" ∷ codes "PART 1" ∷ codes "UP 5 0" ∷ codes "DOWN 5 1" ∷ codes "CHAN 2@H00" ∷ codes "CHAN 3@HFF" ∷ codes "CUE 3" ∷ codes
-    "PART 1" ∷ codes "UP 5 0" ∷ codes "DOWN 5 0" ∷ codes "CHAN 1@H00" ∷ codes "CHAN 2@HFF" ∷ codes "CHAN 3@H00" ∷ codes "ENDDATA" ∷ [])
+moves_of_looks : script_output Render States (barred (file ++ codes "|save")) []
+    ≡ barred (codes "IDENT 3:0|SET CHANNELS 24|PATCH 1 1<1@HFF|PATCH 1 2<2@HFF|PATCH 1 3<3@H80|CUE 1|TEXT Preset|PART 1|UP 3 0|"
+    ++ codes "DOWN 3 0|CHAN 1@H80|CHAN 2@HFF|CUE 2|PART 1|UP 5 0|DOWN 5 1|CHAN 2@H00|CHAN 3@HFF|CUE 3|PART 1|UP 5 0|DOWN 5 0|"
+    ++ codes "CHAN 1@H00|CHAN 2@HFF|CHAN 3@H00|ENDDATA")
 unfolding digits
 moves_of_looks = refl
 
--- without its last line the file has no end
-without_its_end : check_output Moves (text uncut)
-    ≡ text (codes "show NoEndData 22" ∷ [])
+-- Without its last line the file has no end, nor has it where it is cut within its last word. Cut within a pair, the level is missing; cut
+-- within a level, a shorter number is read, and the end is missing.
+cut_short : map (check_output Moves) (barred uncut ∷ (barred uncut ++ codes "ENDDAT") ∷ (barred front ++ codes "CHAN 2@")
+    ∷ (barred front ++ codes "CHAN 2@1") ∷ [])
+    ≡ map barred (codes "show NoEndData 22" ∷ codes "show NoEndData 23" ∷ codes "show ShortList 21" ∷ codes "show NoEndData 22" ∷ [])
 unfolding digits
-without_its_end = refl
-
-abbrev front : List (List ℕ)
-front =
-    codes "IDENT 3:0" ∷ codes "MANUFACTURER EXAMPLE" ∷ codes "CONSOLE DESK" ∷ codes "CLEAR ALL" ∷ codes "SET CHANNELS 24" ∷ codes
-    "! front of house" ∷ codes "PATCH 1 1<1@100 2<2@100 3<3@50"
-    ∷ codes "$SPECIAL 7" ∷ codes "CHAN 1@30" ∷ codes "CUE 1" ∷ codes "TEXT Preset" ∷ codes "UP 3" ∷ codes "DOWN 3" ∷ codes "$$SNAP 1"
-    ∷ codes "CHAN 1@50 2@100" ∷ codes "CUE 2" ∷ codes "UP 5" ∷ codes "DOWN 5 1" ∷ codes "CHAN 1@50 3@FL" ∷ codes "CUE 3" ∷ []
-
--- cut within a pair, the level is missing
-cut_before_a_level : check_output Moves (text front ++ codes "CHAN 2@")
-    ≡ text (codes "show ShortList 21" ∷ [])
-unfolding digits
-cut_before_a_level = refl
-
--- cut within a level, a shorter number is read, and the end is missing
-cut_within_a_level : check_output Moves (text front ++ codes "CHAN 2@1")
-    ≡ text (codes "show NoEndData 22" ∷ [])
-unfolding digits
-cut_within_a_level = refl
-
--- cut within its last word, the end is missing
-cut_within_the_end : check_output Moves (text uncut ++ codes "ENDDAT")
-    ≡ text (codes "show NoEndData 23" ∷ [])
-unfolding digits
-cut_within_the_end = refl
+cut_short = refl

@@ -1,10 +1,10 @@
 -- The same text read under finer cue numbers: the definitions take the limits of a text as one record.
-use Rattle.lx_spec.proofs.Imports.{◌≡◌, ℕ, Result, Ok, Err, List, [], ◌∷◌, refl, codes, arith, Moves, Shape, desk_limits, read_cue_no}
+use Rattle.lx_spec.proofs.Imports.{◌≡◌, Result, Ok, Err, [], ◌∷◌, map, refl, codes, arith, Moves, Shape, desk_limits, read_cue_no}
 use Rattle.lx_spec.proofs.Imports.{decimal_text, Reading, reads_under}
 use Rattle.std.specs.Fmt.{digits}
 use Rattle.lx_spec.specs.declared.TextFault.{TextFault}
 use Rattle.lx_spec.specs.Finer.{HasOneDecimalMore, hundredths, finer}
-use Rattle.lx_spec.proofs.ScriptTexts.{text}
+use Rattle.lx_spec.proofs.ScriptTexts.{barred}
 
 pub one_decimal_more : HasOneDecimalMore desk_limits hundredths
 one_decimal_more = record {
@@ -21,21 +21,15 @@ abbrev made_finer : Result Reading TextFault → Result Reading TextFault
 made_finer (Ok reading) = Ok (finer reading)
 made_finer (Err fault) = Err fault
 
-three_decimals : read_cue_no desk_limits (codes "2.555") ≡ Ok 2555
-three_decimals = refl
-
-four_decimals : read_cue_no desk_limits (codes "2.5555") ≡ Err Shape
-four_decimals = refl
-
-same_number : read_cue_no desk_limits (codes ".05") ≡ Ok 50
-same_number = refl
+-- three decimals are read, and four are not
+decimals_read : map (λ t. read_cue_no desk_limits (codes t)) ("2.555" ∷ "2.5555" ∷ ".05" ∷ []) ≡ Ok 2555 ∷ Err Shape ∷ Ok 50 ∷ []
+decimals_read = refl
 
 three_decimals_written : decimal_text 1000 2550 ≡ codes "2.55"
 unfolding digits
 three_decimals_written = refl
 
-abbrev linked : List (List ℕ)
-linked = codes "IDENT 3:0" ∷ codes "CUE 2.5" ∷ codes "LINK .05" ∷ codes "CHAN 1@50" ∷ codes "ENDDATA" ∷ []
-
-same_show : reads_under desk_limits Moves (text linked) ≡ made_finer (reads_under hundredths Moves (text linked))
+same_show :
+    let linked = barred (codes "IDENT 3:0|CUE 2.5|LINK .05|CHAN 1@50|ENDDATA") in
+    reads_under desk_limits Moves linked ≡ made_finer (reads_under hundredths Moves linked)
 same_show = refl

@@ -4,7 +4,7 @@ pub use Rattle.std.proofs.Common.{◌≡◌, ◌≢◌, ◌≤◌, ap, append-ni
 pub use Rattle.std.proofs.Common.{flat_map, fold, get_or, IfOk, IfSome, if◌then◌else◌, inl, inr, is_none, is_some, IsTrue, length, length-append}
 pub use Rattle.std.proofs.Common.{length-take, List, map, max, mul_assoc, nat_le, nat_lt, None, not, Ok, Option, option_and_then, option_map, option_to_list}
 pub use Rattle.std.proofs.Common.{refl, replicate, Result, reverse, slice_get, slice_set, Some, subst, suc, sym, take, take-append-drop, take-take, take_all}
-pub use Rattle.std.proofs.Common.{true, true≢false, unwrap_or, zero}
+pub use Rattle.std.proofs.Common.{true, unwrap_or, zero}
 pub use Rattle.lx_base.specs.declared.TheConstants.{BACK_TIME, CUE_MAX, CUE_UNIT, CUES, DIMMERS, GROUPS, LABEL_BYTES, LINE_BYTES, PARTS, SUBS, TICK_END}
 pub use Rattle.lx_base.specs.declared.TheConstants.{TICK_STEP, TICKS, TIME_MAX, UNIVERSES}
 pub use Rattle.lx_spec.specs.CheckOutput.{check_output}
@@ -21,7 +21,7 @@ pub use Rattle.lx_spec.specs.Numerals.{decimal_text, decimal_value, decimals, ha
 pub use Rattle.lx_spec.specs.Numerals.{level_text, number_of, ranged, read_cue_no, read_level, read_minutes, read_seconds, read_time, read_whole, time_text}
 pub use Rattle.lx_spec.specs.Numerals.{whole_part}
 pub use Rattle.lx_spec.specs.Playback.{appended, at_opening, at_rest, follow_of, followed, has_room, if_room, is_due, is_over, Playback, Played, position_of}
-pub use Rattle.lx_spec.specs.Playback.{press, rested, run_of, run_whole, start_above, tick, ticked}
+pub use Rattle.lx_spec.specs.Playback.{no_run, press, rested, run_of, run_whole, start_above, tick, ticked}
 pub use Rattle.lx_spec.specs.Reading.{Reading, reads, reads_under}
 pub use Rattle.lx_spec.specs.Run.{acts, delay_of, entry_extent, entry_for, extent, first_entry, Run, time_of}
 pub use Rattle.lx_spec.specs.Script.{alone, cue_edit, cue_number, delete_line, fader_line, follow_line, frame_line, goto_line, group_line, label_line, line_of}

@@ -2,11 +2,16 @@
 use Rattle.lx_spec.proofs.Imports.{◌≡◌, ℕ, zero, suc, ◌-◌, ◌<◌, ◌≤◌, Bool, true, false, cond, List, [], ◌∷◌, ◌++◌, length}
 use Rattle.lx_spec.proofs.Imports.{get_or, take, drop, Some, None, refl, ◌∙◌, sym, ap, subst, inl, inr, arith, Bor, Option, IfSome, filter, find, map}
 use Rattle.lx_spec.proofs.Imports.{reverse, option_to_list, option_map, option_and_then, slice_get, ◌&&◌, option_copied, option_map_or, option_or}
-use Rattle.lx_spec.proofs.Imports.{AllByRecursion, refill, reverse-cons, cases_Bool, false≢true, length-reverse, get_or-reverse, append-nil, reverse-append}
+use Rattle.lx_spec.proofs.Imports.{AllByRecursion, refill, reverse-cons, cases_Bool, length-reverse, get_or-reverse, append-nil, reverse-append}
 use Rattle.lx_spec.proofs.Imports.{map-append, filter-append}
 use Rattle.std.proofs.Math.Seq.{take-append_seam}
 use Rattle.std.proofs.lemmas.Option.{slice_get-get_or}
 use Rattle.lx_spec.proofs.Comparisons.{and_known}
+
+-- what holds of each of two values holds of the one that a test chooses
+pub decided : {A : Type 0} (P : A → Type 0) (b : Bool) (x y : A) → (b ≡ true → P x) → (b ≡ false → P y) → P (cond b x y)
+decided P true x y one other = one refl
+decided P false x y one other = other refl
 
 pub each : {A : Type 0} (P Q : A → Type 0) (xs : List A) → ((x : A) → P x → Q x) → AllByRecursion P xs → AllByRecursion Q xs
 each P Q [] f all = all
@@ -26,15 +31,10 @@ kept_by P p [] all = tt
 kept_by P p (x ∷ xs) all = elim (p x) as (λ b. AllByRecursion P (cond b (x ∷ filter p xs) (filter p xs)))
     [ true ↦ (all.0, kept_by P p xs all.1) | false ↦ kept_by P p xs all.1 ]
 
-pub passes_step : {A : Type 0} (p : A → Bool) (x : A) (xs : List A) (b : Bool) → p x ≡ b → AllByRecursion (λ y. p y ≡ true) (filter p xs)
-    → AllByRecursion (λ y. p y ≡ true) (cond b (x ∷ filter p xs) (filter p xs))
-passes_step p x xs true is rest = (is, rest)
-passes_step p x xs false is rest = rest
-
 -- what a filter keeps passes its test
 pub passes : {A : Type 0} (p : A → Bool) (xs : List A) → AllByRecursion (λ y. p y ≡ true) (filter p xs)
 passes p [] = tt
-passes p (x ∷ xs) = passes_step p x xs (p x) refl (passes p xs)
+passes p (x ∷ xs) = elim (cases_Bool (p x)) [ inl passed ↦ rw passed (passed, passes p xs) | inr failed ↦ rw failed (passes p xs) ]
 
 -- what passes is kept, and what fails is not
 pub filter_all : {A : Type 0} (p : A → Bool) (xs : List A) → AllByRecursion (λ x. p x ≡ true) xs → filter p xs ≡ xs
@@ -57,18 +57,12 @@ find_after p (x ∷ xs) back all = rw all.0 (find_after p xs back all.1)
 -- the first that passes is the first of those that pass
 pub find_first : {A : Type 0} (p : A → Bool) (xs : List A) → slice_get (filter p xs) 0 ≡ find p xs
 find_first p [] = refl
-find_first p (x ∷ xs) = elim (p x) as (λ b. slice_get (cond b (x ∷ filter p xs) (filter p xs)) 0 ≡ cond b (Some x) (find p xs))
-    [ true ↦ refl | false ↦ find_first p xs ]
+find_first p (x ∷ xs) = grind (arith, find_first p xs)
 
 -- two tests, one after the other
 pub find_both : {A : Type 0} (p q : A → Bool) (xs : List A) → find q (filter p xs) ≡ find (λ x. p x && q x) xs
 find_both p q [] = refl
-find_both p q (x ∷ xs) = elim (p x) as (λ b. find q (cond b (x ∷ filter p xs) (filter p xs))
-    ≡ cond (b && q x) (Some x) (find (λ y. p y && q y) xs)) [
-      | true ↦ elim (q x) as (λ b. cond b (Some x) (find q (filter p xs)) ≡ cond b (Some x) (find (λ y. p y && q y) xs))
-          [ true ↦ refl | false ↦ find_both p q xs ]
-      | false ↦ find_both p q xs
-    ]
+find_both p q (x ∷ xs) = grind (arith, find_both p q xs)
 
 -- a filter keeps the order, from either end
 pub filter-reverse : {A : Type 0} (p : A → Bool) (xs : List A) → filter p (reverse xs) ≡ reverse (filter p xs)
@@ -101,18 +95,15 @@ pub none_differs : {A : Type 0} (x : A) → None ≡ Some x → ⊥
 none_differs x is = cc
 
 pub first_is : {A : Type 0} (y x : A) (b : Bool) (rest : Option A) → b ≡ true → cond b (Some y) rest ≡ Some x → y ≡ x
-first_is y x true rest test found = cc
-first_is y x false rest test found = absurd (false≢true test)
-
-pub found_step : {A : Type 0} (p : A → Bool) (y : A) (ys : List A) (x : A) (b : Bool) → p y ≡ b → cond b (Some y) (find p ys) ≡ Some x
-    → (find p ys ≡ Some x → p x ≡ true) → p x ≡ true
-found_step p y ys x true test is rest = cc
-found_step p y ys x false test is rest = rest is
+first_is y x b rest test found = let is : Some y ≡ Some x = rw test at found in cc
 
 -- what is found passes the test
 pub find_passes : {A : Type 0} (p : A → Bool) (xs : List A) (x : A) → find p xs ≡ Some x → p x ≡ true
 find_passes p [] x is = absurd (none_differs x is)
-find_passes p (y ∷ ys) x is = found_step p y ys x (p y) refl is (find_passes p ys x)
+find_passes p (y ∷ ys) x is = elim (cases_Bool (p y)) [
+  | inl passed ↦ let same : Some y ≡ Some x = rw passed at is in cc
+  | inr failed ↦ find_passes p ys x (rw failed at is)
+]
 
 -- a filter that keeps all that a test finds
 pub find_in_filter : {A : Type 0} (p q : A → Bool) (xs : List A) → ((x : A) → p x ≡ true → q x ≡ true) → find p (filter q xs) ≡ find p xs
@@ -137,10 +128,7 @@ found_has {A} P test xs found is all = subst (λ (o : Option A). IfSome o P) (sy
 
 pub find_mapped : {X Y : Type 0} (f : X → Y) (p : Y → Bool) (xs : List X) → find p (map f xs) ≡ option_map f (find (λ x. p (f x)) xs)
 find_mapped f p [] = refl
-find_mapped f p (x ∷ xs) = elim (cases_Bool (p (f x))) [
-  | inl here ↦ rw here refl
-  | inr other ↦ rw other (find_mapped f p xs)
-]
+find_mapped f p (x ∷ xs) = grind (arith, find_mapped f p xs)
 
 pub map_reversed : {X Y : Type 0} (f : X → Y) (xs : List X) → reverse (map f xs) ≡ map f (reverse xs)
 map_reversed f [] = refl
@@ -160,8 +148,7 @@ map_or_mapped f g (Some x) z = refl
 
 pub shorter : {A : Type 0} (p : A → Bool) (xs : List A) → length (filter p xs) ≤ length xs
 shorter p [] = omega arith
-shorter p (x ∷ xs) = elim (p x) as (λ b. length (cond b (x ∷ filter p xs) (filter p xs)) ≤ length (x ∷ xs))
-    [ true ↦ omega (arith, shorter p xs) | false ↦ omega (arith, shorter p xs) ]
+shorter p (x ∷ xs) = grind (arith, shorter p xs)
 
 pub or_none : {A : Type 0} (o : Option A) → option_or o None ≡ o
 or_none None = refl

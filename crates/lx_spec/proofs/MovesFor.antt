@@ -1,37 +1,11 @@
 -- A cue with moves for the channels that pass a test.
-use Rattle.lx_spec.proofs.Imports.{◌≡◌, ℕ, zero, suc, ◌+◌, ◌<◌, ◌≤◌, Bool, true, false, cond, List, [], ◌∷◌, map, Some, None, refl}
-use Rattle.lx_spec.proofs.Imports.{◌∙◌, sym, ap, inl, inr, arith, Option, filter, fold, is_some, nat_lt, ◌==◌, ◌&&◌, ◌||◌, option_map_or}
-use Rattle.lx_spec.proofs.Imports.{list_any, range_with_len, cases_order, cases_lt, true≢false, nat_tests, find-append, Move, entry_at, entries_below}
-use Rattle.lx_spec.proofs.Imports.{entries_above, placed, Cue, Show, InRange, move_in, channels_of, moves_for, with_moves}
+use Rattle.lx_spec.proofs.Imports.{◌≡◌, ℕ, zero, suc, ◌+◌, ◌<◌, ◌≤◌, Bool, true, false, cond, List, [], ◌∷◌, map, Some, refl}
+use Rattle.lx_spec.proofs.Imports.{◌∙◌, ap, inl, inr, arith, Option, filter, fold, is_some, ◌==◌, ◌&&◌, ◌||◌, option_map_or}
+use Rattle.lx_spec.proofs.Imports.{list_any, range_with_len, cases_lt, cases_Bool, nat_tests, Move, entry_at}
+use Rattle.lx_spec.proofs.Imports.{placed, Cue, Show, InRange, move_in, channels_of, moves_for, with_moves}
 use Rattle.lx_spec.proofs.Along.{tracked_on}
-use Rattle.lx_spec.proofs.Comparisons.{eq_other, eq_true, equal_above, equal_below}
-use Rattle.lx_spec.proofs.Lists.{each, find_in_filter, find_none, or_none}
-use Rattle.lx_spec.proofs.SortedLists.{all_above, all_below}
-
--- what is found after an entry was placed
-pub entry_at-placed : {A : Type 0} (key : A → ℕ) (n : ℕ) (x : A) (xs : List A)
-    → entry_at key n (placed key x xs) ≡ cond (key x == n) (Some x) (entry_at key n xs)
-entry_at-placed {A} key n x xs =
-    let split = find-append (λ y. key y == n) (entries_below key (key x) xs) (x ∷ entries_above key (key x) xs) in
-    elim (cases_order (key x) n) [
-      | inl here ↦
-          let none : entry_at key n (entries_below key (key x) xs) ≡ None =
-          find_none _ _ (each _ _ _ (λ y h. eq_other (key y) n (λ same. omega (arith, h, here))) (all_below key (key x) xs)) in
-          split ∙ rw (none, eq_true (key x) n here) refl
-      | inr apart ↦ elim apart [
-        | inl low ↦
-            let none : entry_at key n (entries_below key (key x) xs) ≡ None =
-            find_none _ _ (each _ _ _ (λ y h. eq_other (key y) n (λ same. omega (arith, h))) (all_below key (key x) xs)) in
-            split ∙ rw (none, eq_other (key x) n (λ same. omega arith))
-            (find_in_filter (λ y. key y == n) (λ y. nat_lt (key x) (key y)) xs (λ y h. equal_above (key y) n (key x) low h))
-        | inr high ↦
-            let none : entry_at key n (entries_above key (key x) xs) ≡ None =
-            find_none _ _ (each _ _ _ (λ y h. eq_other (key y) n (λ same. omega (arith, h))) (all_above key (key x) xs)) in
-            let front : entry_at key n (entries_below key (key x) xs) ≡ entry_at key n xs =
-            find_in_filter (λ y. key y == n) (λ y. nat_lt (key y) (key x)) xs (λ y h. equal_below (key y) n (key x) high h) in
-            split ∙ rw (eq_other (key x) n (λ same. omega arith), none, front) (or_none (entry_at key n xs))
-      ]
-    ]
+use Rattle.lx_spec.proofs.Comparisons.{eq_true}
+use Rattle.lx_spec.proofs.SortedLists.{entry_at-placed}
 
 -- a move in part 1 at the channel's level
 abbrev pub move_at : (ℕ → ℕ) → ℕ → Move
@@ -40,12 +14,9 @@ move_at level c = record { chan = c; part = 1; level = level c }
 number_is : (a n : ℕ) → (a == n) ≡ true → a ≡ n
 number_is a n same = grind (arith, nat_tests)
 
-either_move : (f : ℕ → Move) (any b : Bool) (d c : ℕ) (o : Option Move) → (d == c) ≡ b
-    → cond any (Some (f c)) (cond b (Some (f d)) o) ≡ cond (b || any) (Some (f c)) o
-either_move f true true d c o is = refl
-either_move f true false d c o is = refl
-either_move f false true d c o is = ap (λ n. Some (f n)) (number_is d c is)
-either_move f false false d c o is = refl
+either_move : (f : ℕ → Move) (any : Bool) (d c : ℕ) (o : Option Move)
+    → cond any (Some (f c)) (cond (d == c) (Some (f d)) o) ≡ cond ((d == c) || any) (Some (f c)) o
+either_move f any d c o = grind (arith, nat_tests, number_is d c)
 
 -- the moves of some channels, placed
 pub placed_moves : (f : ℕ → Move) → ((d : ℕ) → (f d).chan ≡ d) → (cs : List ℕ) (ms : List Move) (c : ℕ)
@@ -54,53 +25,34 @@ pub placed_moves : (f : ℕ → Move) → ((d : ℕ) → (f d).chan ≡ d) → (
 placed_moves f chan_is [] ms c = refl
 placed_moves f chan_is (d ∷ cs) ms c =
     placed_moves f chan_is cs (placed (λ x. x.chan) (f d) ms) c
-    ∙ ap (λ (o : Option Move). cond (list_any (λ e. e == c) cs) (Some (f c)) o)
-    (entry_at-placed (λ (m : Move). m.chan) c (f d) ms
-    ∙ ap (λ (n : ℕ). cond (n == c) (Some (f d)) (entry_at (λ m. m.chan) c ms)) (chan_is d))
-    ∙ either_move f (list_any (λ e. e == c) cs) (d == c) d c (entry_at (λ m. m.chan) c ms) refl
-
-any_step : (td tc b any kept : Bool) → (b ≡ true → td ≡ tc) → kept ≡ (tc && any) → cond td (b || kept) kept ≡ (tc && (b || any))
-any_step true true true any kept same is = refl
-any_step true false true any kept same is = absurd (true≢false (same refl))
-any_step false true true any kept same is = absurd (true≢false (sym (same refl)))
-any_step false false true any kept same is = is
-any_step true tc false any kept same is = is
-any_step false tc false any kept same is = is
+    ∙ ap (cond (list_any (λ e. e == c) cs) (Some (f c))) (entry_at-placed (λ (m : Move). m.chan) c (f d) ms)
+    ∙ ap (λ (n : ℕ). cond (list_any (λ e. e == c) cs) (Some (f c)) (cond (n == c) (Some (f d)) (entry_at (λ m. m.chan) c ms))) (chan_is d)
+    ∙ either_move f (list_any (λ e. e == c) cs) d c (entry_at (λ m. m.chan) c ms)
 
 -- a number is among those that pass where it passes and is there
 any_passing : (test : ℕ → Bool) (c : ℕ) (cs : List ℕ) → list_any (λ d. d == c) (filter test cs) ≡ (test c && list_any (λ d. d == c) cs)
 any_passing test c [] = elim (test c) as (λ b. false ≡ (b && false)) [ true ↦ refl | false ↦ refl ]
-any_passing test c (d ∷ cs) =
-    elim (test d) as (λ b. list_any (λ e. e == c) (cond b (d ∷ filter test cs) (filter test cs))
-    ≡ cond b ((d == c) || list_any (λ e. e == c) (filter test cs)) (list_any (λ e. e == c) (filter test cs)))
-    [ true ↦ refl | false ↦ refl ]
-    ∙ any_step (test d) (test c) (d == c) (list_any (λ e. e == c) cs) (list_any (λ e. e == c) (filter test cs))
-    (λ same. ap test (number_is d c same)) (any_passing test c cs)
-
-or_true : (a b : Bool) → b ≡ true → (a || b) ≡ true
-or_true true b is = refl
-or_true false b is = is
+any_passing test c (d ∷ cs) = elim (cases_Bool (d == c)) [
+  | inl here ↦ rw (here, number_is d c here) (grind (arith, any_passing test c cs))
+  | inr other ↦ rw other (grind (arith, any_passing test c cs))
+]
 
 -- the numbers from one on have each in their range
 any_in_range : (a n c : ℕ) → a ≤ c → c < a + n → list_any (λ d. d == c) (range_with_len a n) ≡ true
 any_in_range a zero c least most = absurd (omega arith)
 any_in_range a (suc n) c least most =
     elim (cases_lt a c) [
-      | inl less ↦ or_true (a == c) (list_any (λ d. d == c) (range_with_len (a + 1) n))
-          (any_in_range (a + 1) n c (omega arith) (omega arith))
-      | inr here ↦ ap (λ b. b || list_any (λ d. d == c) (range_with_len (a + 1) n)) (eq_true a c (omega arith))
+      | inl less ↦ rw (any_in_range (a + 1) n c (omega arith) (omega arith)) (elim (a == c) as (λ b. (b || true) ≡ true)
+          [ true ↦ refl | false ↦ refl ])
+      | inr here ↦ rw (eq_true a c (omega arith)) refl
     ]
-
-and_true : (a b : Bool) → b ≡ true → (a && b) ≡ a
-and_true true b is = is
-and_true false b is = refl
 
 -- a channel of the show is among those that pass where it passes
 pub passes_among : (show : Show) (test : ℕ → Bool) (c : ℕ) → InRange show.channels c
     → list_any (λ d. d == c) (filter test (channels_of show)) ≡ test c
 passes_among show test c range =
-    any_passing test c (channels_of show) ∙ and_true (test c) (list_any (λ d. d == c) (channels_of show))
-    (any_in_range 1 show.channels c range.least (omega (arith, range.most)))
+    any_passing test c (channels_of show) ∙ rw (any_in_range 1 show.channels c range.least (omega (arith, range.most)))
+    (elim (test c) as (λ b. (b && true) ≡ b) [ true ↦ refl | false ↦ refl ])
 
 -- the move of a channel in the cue so changed
 pub move_in-with_moves : (show : Show) (cue : Cue) (test : ℕ → Bool) (level : ℕ → ℕ) (c : ℕ) → InRange show.channels c
@@ -114,16 +66,12 @@ moved_level cue c level m is =
     ap (λ (o : Option Move). cond (cue.block || is_some o) (option_map_or (λ x. x.level) o 0) level) is
     ∙ elim cue.block as (λ b. cond (b || true) m.level level ≡ m.level) [ true ↦ refl | false ↦ refl ]
 
--- a channel that passes comes to its level
-pub on_passing : (show : Show) (cue : Cue) (test : ℕ → Bool) (level : ℕ → ℕ) (c before : ℕ) → InRange show.channels c → test c ≡ true
-    → tracked_on c (with_moves cue (moves_for show test level)) before ≡ level c
-on_passing show cue test level c before range passes =
-    moved_level (with_moves cue (moves_for show test level)) c before (move_at level c)
-    (move_in-with_moves show cue test level c range ∙ ap (λ b. cond b (Some (move_at level c)) (move_in cue c)) passes)
-
--- another goes on as in the cue that was changed
-pub on_other : (show : Show) (cue : Cue) (test : ℕ → Bool) (level : ℕ → ℕ) (c before : ℕ) → InRange show.channels c → test c ≡ false
-    → tracked_on c (with_moves cue (moves_for show test level)) before ≡ tracked_on c cue before
-on_other show cue test level c before range fails =
-    ap (λ (o : Option Move). cond (cue.block || is_some o) (option_map_or (λ x. x.level) o 0) before)
-    (move_in-with_moves show cue test level c range ∙ ap (λ b. cond b (Some (move_at level c)) (move_in cue c)) fails)
+-- a channel that passes comes to its level, and another goes on as in the cue that was changed
+pub on_moves : (show : Show) (cue : Cue) (test : ℕ → Bool) (level : ℕ → ℕ) (c before : ℕ) → InRange show.channels c
+    → tracked_on c (with_moves cue (moves_for show test level)) before ≡ cond (test c) (level c) (tracked_on c cue before)
+on_moves show cue test level c before range =
+    let is = move_in-with_moves show cue test level c range in
+    elim (cases_Bool (test c)) [
+      | inl passes ↦ rw passes (moved_level (with_moves cue (moves_for show test level)) c before (move_at level c) (rw passes at is))
+      | inr fails ↦ rw (fails, rw fails at is) refl
+    ]

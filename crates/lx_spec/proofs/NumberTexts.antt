@@ -1,88 +1,42 @@
 -- Number texts and their values, by computation.
-use Rattle.lx_spec.proofs.Imports.{◌≡◌, ◌*◌, ◌/◌, Ok, Err, refl, codes, CUE_UNIT, Shape, Range, desk_limits, read_time, read_cue_no, read_level}
-use Rattle.lx_spec.proofs.Imports.{decimal_text, time_text, level_text}
+use Rattle.lx_spec.proofs.Imports.{◌≡◌, ◌*◌, ◌/◌, [], ◌∷◌, map, Ok, Err, refl, codes, CUE_UNIT, Shape, Range, desk_limits, read_time, read_cue_no}
+use Rattle.lx_spec.proofs.Imports.{read_level, decimal_text, time_text, level_text}
 use Rattle.std.specs.Fmt.{digits}
 
--- times, in hundredths of a second
+-- Times, in hundredths of a second: further decimals are cut off, and a time is below 100 minutes.
+times : map (λ t. read_time (codes t)) ("1:30" ∷ ".5" ∷ "1.239" ∷ "99:59.99" ∷ [])
+    ≡ Ok 9000 ∷ Ok 50 ∷ Ok 123 ∷ Ok 599999 ∷ []
+times = refl
 
-minutes : read_time (codes "1:30") ≡ Ok 9000
-minutes = refl
-
-point_first : read_time (codes ".5") ≡ Ok 50
-point_first = refl
-
-cut_decimals : read_time (codes "1.239") ≡ Ok 123
-cut_decimals = refl
-
-longest_time : read_time (codes "99:59.99") ≡ Ok 599999
-longest_time = refl
-
-too_long : read_time (codes "6000") ≡ Err Range
-too_long = refl
-
-sixty_seconds : read_time (codes "1:60") ≡ Err Range
-sixty_seconds = refl
+-- too long, and a minute's seconds are below 60
+no_times : map (λ t. read_time (codes t)) ("6000" ∷ "1:60" ∷ []) ≡ Err Range ∷ Err Range ∷ []
+no_times = refl
 
 -- cue numbers, in their smallest steps
+cue_numbers : map (λ t. read_cue_no desk_limits (codes t)) ("2.5" ∷ "001" ∷ ".05" ∷ "2.555" ∷ [])
+    ≡ Ok (CUE_UNIT * 5 / 2) ∷ Ok CUE_UNIT ∷ Ok (CUE_UNIT / 20) ∷ Ok 2555 ∷ []
+cue_numbers = refl
 
-half_cue : read_cue_no desk_limits (codes "2.5") ≡ Ok (CUE_UNIT * 5 / 2)
-half_cue = refl
+-- too fine, too low and too high
+no_cue_numbers : map (λ t. read_cue_no desk_limits (codes t)) ("2.5555" ∷ "0" ∷ "10000" ∷ []) ≡ Err Shape ∷ Err Range ∷ Err Range ∷ []
+no_cue_numbers = refl
 
-leading_zeros : read_cue_no desk_limits (codes "001") ≡ Ok CUE_UNIT
-leading_zeros = refl
+-- levels in percent, full, and in two hexadecimal digits
+levels : map (λ t. read_level (codes t)) ("50" ∷ "1" ∷ "fl" ∷ "h0a" ∷ []) ≡ Ok 128 ∷ Ok 3 ∷ Ok 255 ∷ Ok 10 ∷ []
+levels = refl
 
-small_cue : read_cue_no desk_limits (codes ".05") ≡ Ok (CUE_UNIT / 20)
-small_cue = refl
-
-fine_cue : read_cue_no desk_limits (codes "2.555") ≡ Ok 2555
-fine_cue = refl
-
-too_fine_cue : read_cue_no desk_limits (codes "2.5555") ≡ Err Shape
-too_fine_cue = refl
-
-cue_zero : read_cue_no desk_limits (codes "0") ≡ Err Range
-cue_zero = refl
-
-high_cue : read_cue_no desk_limits (codes "10000") ≡ Err Range
-high_cue = refl
-
--- levels
-
-half : read_level (codes "50") ≡ Ok 128
-half = refl
-
-one_percent : read_level (codes "1") ≡ Ok 3
-one_percent = refl
-
-full : read_level (codes "fl") ≡ Ok 255
-full = refl
-
-hexadecimal : read_level (codes "h0a") ≡ Ok 10
-hexadecimal = refl
-
-one_hex_digit : read_level (codes "H1") ≡ Err Shape
-one_hex_digit = refl
-
-percent_101 : read_level (codes "101") ≡ Err Range
-percent_101 = refl
+-- one digit alone, and more than all
+no_levels : map (λ t. read_level (codes t)) ("H1" ∷ "101" ∷ []) ≡ Err Shape ∷ Err Range ∷ []
+no_levels = refl
 
 -- written numbers
-
-half_written : decimal_text CUE_UNIT (CUE_UNIT * 5 / 2) ≡ codes "2.5"
+cue_number_written : decimal_text CUE_UNIT (CUE_UNIT * 5 / 2) ≡ codes "2.5"
 unfolding digits
-half_written = refl
+cue_number_written = refl
 
-small_written : time_text 205 ≡ codes "2.05"
+times_written : map time_text (205 ∷ 900 ∷ 0 ∷ []) ≡ codes "2.05" ∷ codes "9" ∷ codes "0" ∷ []
 unfolding digits
-small_written = refl
-
-whole_written : time_text 900 ≡ codes "9"
-unfolding digits
-whole_written = refl
-
-none_written : time_text 0 ≡ codes "0"
-unfolding digits
-none_written = refl
+times_written = refl
 
 level_written : level_text 10 ≡ codes "H0A"
 unfolding digits

@@ -1,5 +1,5 @@
 -- Script lines: what they mean, and some that mean nothing, by computation.
-use Rattle.lx_spec.proofs.Imports.{◌≡◌, ◌*◌, ◌/◌, true, Some, None, refl, codes, replicate, CUE_UNIT, line_of}
+use Rattle.lx_spec.proofs.Imports.{◌≡◌, ◌*◌, ◌/◌, true, Some, None, [], ◌∷◌, map, refl, codes, replicate, CUE_UNIT, line_of}
 use Rattle.lx_spec.specs.declared.Line.TheVariants as lines
 use Rattle.lx_spec.specs.declared.Command.TheVariants as commands
 use Rattle.lx_spec.specs.declared.Edit.TheVariants as edits
@@ -14,26 +14,14 @@ label_line = refl
 comment_line : line_of (codes " ! go") ≡ Some lines.Blank
 comment_line = refl
 
-no_ticks : line_of (codes "tick 0") ≡ None
-no_ticks = refl
+-- numbers out of their range: ticks, and a cue
+out_of_range : map (λ t. line_of (codes t)) ("tick 0" ∷ "tick 100000001" ∷ "goto 0" ∷ []) ≡ replicate 3 None
+out_of_range = refl
 
-too_many_ticks : line_of (codes "tick 100000001") ≡ None
-too_many_ticks = refl
-
-cue_zero : line_of (codes "goto 0") ≡ None
-cue_zero = refl
-
-one_word_more : line_of (codes "go now") ≡ None
-one_word_more = refl
-
-turned_range : line_of (codes "set 1 chan 5 thru 4 at 0") ≡ None
-turned_range = refl
-
-wrong_order : line_of (codes "set 1 chan 1 at 5 only part 1") ≡ None
-wrong_order = refl
-
-unknown_word : line_of (codes "fly 3") ≡ None
-unknown_word = refl
+-- one word more, a turned range, a wrong order, and an unknown word
+no_sentences : map (λ t. line_of (codes t)) ("go now" ∷ "set 1 chan 5 thru 4 at 0" ∷ "set 1 chan 1 at 5 only part 1" ∷ "fly 3" ∷ [])
+    ≡ replicate 4 None
+no_sentences = refl
 
 long_line : line_of (replicate 4097 120) ≡ None
 long_line = refl
