@@ -1,4 +1,5 @@
 //! The end of a line's tokens.
+#![tactic(auto, unfolding(crate::specs::Left::left))]
 
 ghost use Rattle.std.specs.Prelude.{[], IfSome};
 ghost use Rattle.lx_spec.specs.Text.{tokens};
