@@ -78,10 +78,10 @@ module _ (sep mark : ℕ → Bool) where
   tokens_by-comment b l e = ap (λ t. filter is_filled (slice_split sep t)) (before_first-yes mark b l e)
 
   -- a comment goes on to the end, and nothing has no part
-  record FirstPart (line : List ℕ) : Type 0 where
-    others : List (List ℕ)
-    cut : slice_split sep (before_first mark line) ≡ take_while goes line ∷ others
-    rest : filter is_filled others ≡ tokens_by (after_all goes line)
+  pub record FirstPart (line : List ℕ) : Type 0 where
+    pub others : List (List ℕ)
+    pub cut : slice_split sep (before_first mark line) ≡ take_while goes line ∷ others
+    pub rest : filter is_filled others ≡ tokens_by (after_all goes line)
 
   goes-yes : (b : ℕ) → sep b ≡ false → mark b ≡ false → goes b ≡ true
   goes-yes b s e = rw (s, e) refl
@@ -123,7 +123,7 @@ module _ (sep mark : ℕ → Bool) where
       rest = rw (after_all-yes goes b l (goes-yes b s e)) h.rest;
     }
 
-    part : (l : List ℕ) → FirstPart l
+    pub part : (l : List ℕ) → FirstPart l
     part [] = record { others = []; cut = refl; rest = refl }
     part (b ∷ l) = elim (cases_Bool (mark b)) [
       | inl so ↦ part-comment b l so
