@@ -34,6 +34,7 @@ impl<'a> Tokens<'a> {
 }
 
 /// The number that a line of digits alone is.
+#[tactic(auto, using(crate::proofs::PlainNumbers::digits_alone))]
 #[inline(always)]
 fn last_number(line: &[u8]) -> Option<u32>
     ensures { IfSome result (λ n. FirstIsNumber (tokens line.now) n []) }

@@ -1,4 +1,5 @@
 //! Numbers of digits alone, read in one pass over their bytes.
+#![tactic(auto, using(crate::proofs::PlainNumbers::number_first))]
 
 ghost use Rattle.std.specs.Prelude.{◌≡◌, ◌<◌, ◌≤◌, ◌+◌, ◌*◌, true, length, IfSome, List, ℕ};
 ghost use Rattle.lx_spec.specs.Text.{is_separator, after_all, tokens};

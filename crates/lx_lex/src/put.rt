@@ -247,6 +247,7 @@ fn digits_of(value: u64) -> usize
 }
 
 /// How many digits a number below 10,000 has.
+#[tactic(auto, using(crate::proofs::Decimals::digit_counts))]
 #[inline(always)]
 fn digits_of_few(value: u64) -> usize
     requires { value < 10000 }
