@@ -1,6 +1,6 @@
 -- Where lines are cut off.
 use Rattle.lx_lex.proofs.Imports.{◌≡◌, ◌⊎◌, inl, inr, ℕ, zero, suc, ◌+◌, ◌-◌, ◌≤◌, ◌<◌, Bool, true, false, Some, None, IfSome}
-use Rattle.lx_lex.proofs.Imports.{List, [], ◌∷◌, ◌++◌, length, take, refl, sym, ap, ◌∙◌, subst, append-nil, append_assoc, arith, prepend_known}
+use Rattle.lx_lex.proofs.Imports.{List, [], ◌∷◌, ◌++◌, length, take, refl, sym, ap, ◌∙◌, append-nil, append_assoc, arith, prepend_known}
 use Rattle.lx_lex.proofs.Imports.{INPUT_BYTES, HasNoFeed, feeds, first_lines, CutOff, Lines, ReadFault, InputTooLong, feed_of, BytesBetween, LinesBetween}
 use Rattle.lx_lex.proofs.Imports.{StepOf, held, unread, current_line, ToldBySource}
 use Rattle.std.proofs.Common.{Option}

@@ -1,6 +1,6 @@
 -- The table of hexadecimal digits.
-use Rattle.lx_lex.proofs.Imports.{◌≡◌, ℕ, ◌<◌, ◌≤◌, Some, None, refl, ap, sym, ◌∙◌, inl, inr, arith, map, get_or, unwrap_or, ◌&&◌}
-use Rattle.lx_lex.proofs.Imports.{nat_le, range_with_len, cases_Bool, nat_tests, get_or-map-range_with_len, is_digit, hex_value}
+use Rattle.lx_lex.proofs.Imports.{◌≡◌, ℕ, ◌<◌, ◌≤◌, Some, None, refl, ap, sym, ◌∙◌, arith, map, get_or, unwrap_or}
+use Rattle.lx_lex.proofs.Imports.{range_with_len, get_or-map-range_with_len, hex_value}
 use Rattle.std.specs.Prelude.{Option}
 use Rattle.lx_lex.proofs.HexLevels.{hex_digit}
 use Rattle.lx_lex.specs.declared.hex.TheConstants.{VALUES}

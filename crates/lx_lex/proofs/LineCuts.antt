@@ -1,6 +1,6 @@
 -- How a line is cut into tokens, whatever the tests for separators and for the comment are.
 use Rattle.lx_lex.proofs.Imports.{◌≡◌, ℕ, suc, ◌+◌, ◌-◌, ◌≤◌, Bool, true, false, not, ◌||◌, ◌==◌, List, [], ◌∷◌, length, take}
-use Rattle.lx_lex.proofs.Imports.{filter, refl, sym, ap, ◌∙◌, inl, inr, arith, before_first, onto_first, slice_split, take_while, position_or_len}
+use Rattle.lx_lex.proofs.Imports.{filter, refl, sym, ap, ◌∙◌, inl, inr, arith, before_first, slice_split, take_while, position_or_len}
 use Rattle.lx_lex.proofs.Imports.{cases_Bool, length-take, common_steps, is_filled, after_all}
 use Rattle.std.proofs.lemmas.List.Splits.{length-slice_split, slice_split-cons_yes, slice_split-cons_no}
 use Rattle.std.proofs.lemmas.List.Sums.{count_by-le-length, length-filter}

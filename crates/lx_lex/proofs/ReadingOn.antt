@@ -1,6 +1,6 @@
 -- How far a line has been read and what was read for it, and how its step ends.
-use Rattle.lx_lex.proofs.Imports.{◌≡◌, ◌⊎◌, inl, inr, ℕ, ◌+◌, ◌<◌, ◌≤◌, true, false, List, [], ◌++◌, length, take, Some, None, refl, sym}
-use Rattle.lx_lex.proofs.Imports.{◌∙◌, ap, subst, arith, append-nil, nil_from_length, Option, Consumes, Consumes-trans, IsAtEnd, Bool, INPUT_BYTES}
+use Rattle.lx_lex.proofs.Imports.{◌≡◌, ◌⊎◌, inl, inr, ℕ, ◌<◌, ◌≤◌, true, false, List, [], ◌++◌, length, take, Some, None, refl, sym}
+use Rattle.lx_lex.proofs.Imports.{◌∙◌, ap, subst, arith, nil_from_length, Option, Consumes, Consumes-trans, IsAtEnd, Bool, INPUT_BYTES}
 use Rattle.lx_lex.proofs.Imports.{HasNoFeed, Lines, Step, Line, LongLine, ReadFault, InputTooLong, BytesBetween, ReadsWhileUnfed, HasStepCause}
 use Rattle.lx_lex.proofs.Imports.{held, has_feed, unread, current_line, ToldBySource, cases_Bool, without_cr, LineBetween, StepOf, EndOf, EndsInFeed}
 use Rattle.lx_lex.proofs.Imports.{feed_of}

@@ -1,9 +1,9 @@
 -- The rows of the table of channels' numbers.
-use Rattle.lx_lex.proofs.Imports.{◌≡◌, ℕ, ◌+◌, ◌-◌, ◌*◌, ◌/◌, ◌%◌, ◌<◌, ◌≤◌, true, List, [], ◌∷◌, ◌++◌, get_or}
-use Rattle.lx_lex.proofs.Imports.{length, map, take, drop, decimal, arith, cond, inl, inr, refl, sym, ap, ◌∙◌, subst, append_assoc, codes, eqb, nat_lt}
-use Rattle.lx_lex.proofs.Imports.{list_all, range_with_len, starts_with, cases_Bool, cases_lt, Decides-eqb, nat_tests, decimal_digit, length-drop, take_all}
-use Rattle.lx_lex.proofs.Imports.{get_or-map-range_with_len, starts_is, pair, decimal_two, decimal_pair, is_digit, number_of, is_separator, begins_comment}
-use Rattle.lx_lex.proofs.Imports.{tokens, lt_true, lt_false, BeginsWithDigits, EndsToken, FirstIsNumber}
+use Rattle.lx_lex.proofs.Imports.{◌≡◌, ℕ, ◌+◌, ◌-◌, ◌/◌, ◌%◌, ◌<◌, ◌≤◌, true, List, ◌∷◌, ◌++◌, get_or}
+use Rattle.lx_lex.proofs.Imports.{length, map, take, drop, decimal, arith, cond, inl, inr, refl, sym, ap, ◌∙◌, codes, eqb, nat_lt}
+use Rattle.lx_lex.proofs.Imports.{range_with_len, starts_with, cases_Bool, cases_lt, Decides-eqb, nat_tests, decimal_digit, length-drop, take_all}
+use Rattle.lx_lex.proofs.Imports.{get_or-map-range_with_len, starts_is, pair, decimal_two, decimal_pair, is_separator, begins_comment}
+use Rattle.lx_lex.proofs.Imports.{tokens, lt_true, lt_false, EndsToken, FirstIsNumber}
 use Rattle.lx_lex.specs.declared.names.TheConstants.{NUMBERS, DIGITS}
 use Rattle.lx_lex.proofs.LineCuts.{tokens_by-separator}
 use Rattle.lx_lex.proofs.PlainNumbers.{number_first}

@@ -1,4 +1,4 @@
-use Rattle.lx_lex.proofs.Imports.{◌≡◌, ◌≤◌, ℕ, suc, ◌+◌, ◌-◌, length, ap, ◌∙◌, arith, tokens, after_tokens}
+use Rattle.lx_lex.proofs.Imports.{◌≡◌, suc, ◌+◌, ◌-◌, length, ap, ◌∙◌, arith, tokens, after_tokens}
 use Rattle.lx_lex.proofs.Imports.{after_all, is_blank}
 use Rattle.lx_spec.proofs.Comparisons.{le_true}
 use Rattle.lx_lex.proofs.cut.rest_after.Goals as goal

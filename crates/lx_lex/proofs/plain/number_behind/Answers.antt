@@ -1,4 +1,4 @@
-use Rattle.lx_lex.proofs.Imports.{◌∙◌, ap, is_separator, begins_comment, tokens}
+use Rattle.lx_lex.proofs.Imports.{is_separator, begins_comment}
 use Rattle.lx_lex.proofs.LineCuts.{tokens_by-skip}
 use Rattle.lx_lex.proofs.Separators.{apart}
 use Rattle.lx_lex.proofs.PlainNumbers.{number_first}
