@@ -138,8 +138,8 @@ module _ (sep mark : ℕ → Bool) where
           (rw (front, after) (begins ∙ (rw (h.cut, filled, h.rest) refl)), after)
 
   -- at most one token more than bytes
-  pub length-tokens_by : (l : List ℕ) → length (tokens_by l) ≤ length l + 1
-  length-tokens_by l =
+  pub tokens_few : (l : List ℕ) → length (tokens_by l) ≤ length l + 1
+  tokens_few l =
       let front : List ℕ = before_first mark l in
       omega (
         arith,

@@ -208,6 +208,7 @@ fn write_whole(value: u64, room: &mut [u8; TEXT_ROOM], at: usize) -> usize
 }
 
 /// Writes a number of one digit at a place, and says where it ends. Most numbers of a reply are of one.
+#[tactic(auto, using(std::proofs::lemmas::List::take_more_set, std::proofs::lemmas::Fmt::decimal_digit))]
 #[inline(always)]
 fn write_digit(value: u8, room: &mut [u8; TEXT_ROOM], at: usize) -> usize
     requires place { at ≤ START_BYTES }
