@@ -1,9 +1,10 @@
 -- Where lines are cut off.
 use Rattle.lx_lex.proofs.Imports.{◌≡◌, ◌⊎◌, inl, inr, ℕ, zero, suc, ◌+◌, ◌-◌, ◌≤◌, ◌<◌, Bool, true, false, Some, None, IfSome}
-use Rattle.lx_lex.proofs.Imports.{List, [], ◌∷◌, ◌++◌, length, take, refl, sym, ap, ◌∙◌, subst, append-nil, append_assoc, arith, prepend_known}
+use Rattle.lx_lex.proofs.Imports.{List, [], ◌∷◌, ◌++◌, length, take, refl, sym, ap, ◌∙◌, append-nil, append_assoc, arith, prepend_known}
 use Rattle.lx_lex.proofs.Imports.{INPUT_BYTES, HasNoFeed, feeds, first_lines, CutOff, Lines, ReadFault, InputTooLong, feed_of, BytesBetween, LinesBetween}
 use Rattle.lx_lex.proofs.Imports.{StepOf, held, unread, current_line, ToldBySource}
 use Rattle.std.proofs.Common.{Option}
+use Rattle.std.proofs.lemmas.List.{take-append-le}
 use Rattle.lx_lex.specs.CutOff.{NotTaken}
 
 -- the next line wasn't taken: a read failed, or the input is too long
@@ -21,24 +22,14 @@ no_feed-take (suc k) [] h = tt
 no_feed-take (suc k) (x ∷ xs) h = (h.0, no_feed-take k xs h.1)
 
 -- no LF is among the first bytes, where they are those of the line
-no_feed-before : (k : ℕ) (raw more : List ℕ) → k ≤ length raw → HasNoFeed raw → HasNoFeed (take k (raw ++ more))
-no_feed-before zero raw more le h = tt
-no_feed-before (suc k) [] more le h = absurd (omega (arith, le))
-no_feed-before (suc k) (b ∷ raw) more le h = (h.0, no_feed-before k raw more (omega (arith, le)) h.1)
-
-all_held : (k : ℕ) (raw more : List ℕ) (fed : Bool) → fed ≡ false → more ≡ [] → HasNoFeed raw
+no_feed-line : (k : ℕ) (raw more : List ℕ) (fed : Bool) → HasNoFeed raw → (k ≤ length raw) ⊎ ((fed ≡ false) × (more ≡ []))
     → HasNoFeed (take k ((raw ++ feed_of fed) ++ more))
-all_held k raw more fed unfed none h =
-    let e : (raw ++ feed_of fed) ++ more ≡ raw = ap (λ b. (raw ++ feed_of b) ++ more) unfed ∙ ap (λ v. (raw ++ []) ++ v) none
-    ∙ append-nil (raw ++ []) ∙ append-nil raw in
-    subst (λ v. HasNoFeed (take k v)) (sym e) (no_feed-take k raw h)
+no_feed-line k raw more fed h (inl le) = rw (append_assoc, take-append-le k raw (feed_of fed ++ more) le) (no_feed-take k raw h)
+no_feed-line k raw more fed h (inr (unfed, none)) = rw (unfed, none, append-nil, append-nil) (no_feed-take k raw h)
 
-within_limit : (k : ℕ) (raw more : List ℕ) (fed : Bool) → k < length raw + length (feed_of fed) → HasNoFeed raw
-    → HasNoFeed (take k ((raw ++ feed_of fed) ++ more))
-within_limit k raw more true lt h = subst (λ v. HasNoFeed (take k v)) (sym (append_assoc raw (10 ∷ []) more))
-    (no_feed-before k raw (10 ∷ more) (omega (arith, lt)) h)
-within_limit k raw more false lt h = subst (λ v. HasNoFeed (take k v)) (sym (append_assoc raw [] more))
-    (no_feed-before k raw more (omega (arith, lt)) h)
+one_feed : (fed : Bool) → length (feed_of fed) ≤ 1
+one_feed true = omega arith
+one_feed false = omega arith
 
 -- where these lines were handed out and the next one wasn't taken
 cut_at : (a b o : Option (List ℕ)) (i j k : ℕ) (more : List ℕ) (raws : List (List ℕ)) (raw : List ℕ) (fed : Bool)
@@ -58,11 +49,10 @@ cut_at (Some x) (Some y) (Some z) i j k more raws raw fed p q stop = (
       | inl all ↦ inl (ap feeds (sym p.front) ∙ all)
       | inr end ↦ inr (append_assoc (raw ++ feed_of fed) more z ∙ sym q.bytes ∙ end)
     ];
-    no_feed = elim stop [
-      | inl past ↦ within_limit (INPUT_BYTES - (i + length (first_lines (length raws) x))) raw more fed
-          (omega (arith, past, p.count, q.count, ap length p.front, p.within)) q.no_feed
-      | inr held ↦ all_held (INPUT_BYTES - (i + length (first_lines (length raws) x))) raw more fed held.0 held.1 q.no_feed
-    ];
+    no_feed = no_feed-line (INPUT_BYTES - (i + length (first_lines (length raws) x))) raw more fed q.no_feed (elim stop [
+      | inl past ↦ inl (omega (arith, past, p.count, q.count, ap length p.front, p.within, one_feed fed))
+      | inr held ↦ inr held
+    ]);
   },
   refl,
 )

@@ -11,6 +11,8 @@ pub length_four : (n : ℕ) → 1000 ≤ n → n < 10000 → length (decimal n) 
 length_four n least most =
     omega (arith, length_pair n (omega arith) (omega arith), length_two (n / 100) (omega arith) (omega arith))
 
+pub ruleset digit_counts = (length_one, length_two, length_three, length_four)
+
 decimals_of-next : (k unit rest : ℕ) → 0 < k → rest ≢ 0
     → decimals_of k unit rest ≡ (48 + 10 * rest / unit) ∷ decimals_of (k - 1) unit (10 * rest % unit)
 decimals_of-next zero unit rest some ne = absurd (omega (arith, some))
@@ -38,9 +40,7 @@ begun text at unit rest inside small =
     record {
       within = omega arith;
       small = small;
-      is_all = ap (λ k. take (at + 1) (set text at 46) ++ decimals_of k unit rest) three
-          ∙ ap (λ v. v ++ decimals_of 3 unit rest) (take_more_set text at 46 inside)
-          ∙ append_assoc (take at text) (46 ∷ []) (decimals_of 3 unit rest);
+      is_all = rw (three, take_more_set text at 46 inside, append_assoc) refl;
     }
 
 pub goes_on : (text : List ℕ) (end last unit rest : ℕ) (all : List ℕ) → Written text end last unit rest all → last ≤ length text → rest ≢ 0
@@ -54,11 +54,7 @@ goes_on text end last unit rest all w size ne lt = record {
       let missing : decimals_of (last - end) unit rest ≡ digit ∷ decimals_of (last - end - 1) unit next =
       decimals_of-next (last - end) unit rest (omega arith) ne in
       let fewer : last - (end + 1) ≡ last - end - 1 = omega arith in
-      ap (λ v. v ++ decimals_of (last - (end + 1)) unit next) (take_more_set text end digit (omega (arith, size)))
-      ∙ append_assoc (take end text) (digit ∷ []) (decimals_of (last - (end + 1)) unit next)
-      ∙ ap (λ k. take end text ++ digit ∷ decimals_of k unit next) fewer
-      ∙ ap (λ v. take end text ++ v) (sym missing)
-      ∙ w.is_all;
+      rw (fewer, take_more_set text end digit (omega (arith, size)), append_assoc, ← missing) w.is_all;
 }
 
 pub ended : (text : List ℕ) (end last unit rest : ℕ) (all : List ℕ) → Written text end last unit rest all → (rest ≡ 0) ⊎ (last ≤ end)

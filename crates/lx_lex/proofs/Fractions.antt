@@ -2,6 +2,11 @@
 use Rattle.lx_lex.proofs.Imports.{◌≡◌, ℕ, zero, suc, ◌+◌, ◌-◌, ◌*◌, ◌/◌, ◌^◌, ◌<◌, ◌≤◌, false, nat_le, add-one, sym, ap}
 use Rattle.lx_lex.proofs.Imports.{◌∙◌, inl, inr, arith, pow-add, cases_lt, nat_tests, pow-succ', div-div-eq-div-mul, mul-div_cancel, mul-div-mul_right}
 use Rattle.lx_lex.proofs.Imports.{div-eq_of_lt, mul-le-mul_right, le-div_iff_mul-le}
+use Rattle.lx_lex.proofs.Imports.{refl}
+use Rattle.lx_lex.specs.Decimals.{IsPowerOfTen}
+
+pub hundred : IsPowerOfTen 100
+hundred = (2, refl)
 
 pub ten_pos : (i : ℕ) → 0 < 10 ^ i
 ten_pos zero = omega arith

@@ -19,7 +19,7 @@ pub handed_one : {S : Type 0} (told : ToldBySource S) (a b : Lines S) (raw : Lis
     → LineBetween (unread told a) (unread told b) a.taken b.taken raw → b.number ≡ a.number + 1 → b.going ≡ true
     → b.source.ghost_name ≡ a.source.ghost_name → told.faults b.source.now ≡ told.faults a.source.now → HandedOut told a b (raw ∷ [])
 handed_one told a b raw took number going same kept = record {
-  took = one_line (unread told a) (unread told b) a.taken b.taken raw took;
+  took = one_line (unread told a) (unread told b) took;
   number = number;
   going = going;
   same_reference = same;
@@ -30,7 +30,7 @@ handed_one told a b raw took number going same kept = record {
 pub handed_then : {S : Type 0} (told : ToldBySource S) (a b c : Lines S) (raws raws' : List (List ℕ))
     → HandedOut told a b raws → HandedOut told b c raws' → HandedOut told a c (raws ++ raws')
 handed_then told a b c raws raws' p q = record {
-  took = then_lines (unread told a) (unread told b) (unread told c) a.taken b.taken c.taken raws raws' p.took q.took;
+  took = then_lines (unread told a) (unread told b) (unread told c) p.took q.took;
   number = omega (arith, p.number, q.number, length-append raws raws');
   going = q.going;
   same_reference = q.same_reference ∙ p.same_reference;

@@ -1,7 +1,8 @@
 -- The table of hexadecimal digits.
-use Rattle.lx_lex.proofs.Imports.{◌≡◌, ℕ, ◌<◌, ◌≤◌, Some, None, refl, ap, sym, ◌∙◌, inl, inr, arith, map, get_or, unwrap_or, ◌&&◌}
-use Rattle.lx_lex.proofs.Imports.{nat_le, range_with_len, cases_Bool, nat_tests, get_or-map-range_with_len, is_digit, hex_value}
+use Rattle.lx_lex.proofs.Imports.{◌≡◌, ℕ, ◌<◌, ◌≤◌, Some, None, refl, ap, sym, ◌∙◌, arith, map, get_or, unwrap_or}
+use Rattle.lx_lex.proofs.Imports.{range_with_len, get_or-map-range_with_len, hex_value}
 use Rattle.std.specs.Prelude.{Option}
+use Rattle.lx_lex.proofs.HexLevels.{hex_digit}
 use Rattle.lx_lex.specs.declared.hex.TheConstants.{VALUES}
 
 values_are : VALUES ≡ map (λ b. unwrap_or (hex_value b) 16) (range_with_len 0 256)
@@ -10,18 +11,6 @@ values_are = refl
 value_at : (b : ℕ) → b < 256 → get_or VALUES b 0 ≡ unwrap_or (hex_value b) 16
 value_at b lt = ap (λ vs. get_or vs b 0) values_are
     ∙ get_or-map-range_with_len (λ b. unwrap_or (hex_value b) 16) 0 256 b b 0 lt (omega arith)
-
-below_16 : (b v : ℕ) → hex_value b ≡ Some v → v < 16
-below_16 b v e = elim (cases_Bool (is_digit b)) [
-  | inl so ↦ grind (arith, nat_tests)
-  | inr odd ↦ elim (cases_Bool (nat_le 65 b && nat_le b 70)) [
-    | inl so ↦ grind (arith, nat_tests)
-    | inr none ↦ elim (cases_Bool (nat_le 97 b && nat_le b 102)) [
-      | inl so ↦ grind (arith, nat_tests)
-      | inr other ↦ absurd (let h = rw (odd, none, other) at e in cc)
-    ]
-  ]
-]
 
 some_of : (o : Option ℕ) (v : ℕ) → v ≡ unwrap_or o 16 → v < 16 → o ≡ Some v
 some_of (Some x) v is low = ap Some (sym is)
@@ -36,4 +25,4 @@ pub digit_value : (b v : ℕ) → b < 256 → v ≡ get_or VALUES b 0 → v < 16
 digit_value b v lt is low = sym (some_of (hex_value b) v (is ∙ value_at b lt) low)
 
 pub no_value : (b v : ℕ) → b < 256 → v ≡ get_or VALUES b 0 → 16 ≤ v → None ≡ hex_value b
-no_value b v lt is high = sym (none_of (hex_value b) v (below_16 b) (is ∙ value_at b lt) high)
+no_value b v lt is high = sym (none_of (hex_value b) v (λ x e. (hex_digit b e).1) (is ∙ value_at b lt) high)

@@ -1,8 +1,9 @@
 -- How a line is cut into tokens, whatever the tests for separators and for the comment are.
-use Rattle.lx_lex.proofs.Imports.{◌≡◌, ℕ, suc, ◌-◌, ◌≤◌, Bool, true, false, not, ◌||◌, ◌==◌, List, [], ◌∷◌, length, take}
-use Rattle.lx_lex.proofs.Imports.{filter, refl, sym, ap, ◌∙◌, inl, inr, arith, before_first, onto_first, slice_split, take_while, position_or_len}
+use Rattle.lx_lex.proofs.Imports.{◌≡◌, ℕ, suc, ◌+◌, ◌-◌, ◌≤◌, Bool, true, false, not, ◌||◌, ◌==◌, List, [], ◌∷◌, length, take}
+use Rattle.lx_lex.proofs.Imports.{filter, refl, sym, ap, ◌∙◌, inl, inr, arith, before_first, slice_split, take_while, position_or_len}
 use Rattle.lx_lex.proofs.Imports.{cases_Bool, length-take, common_steps, is_filled, after_all}
-use Rattle.std.proofs.lemmas.List.Splits.{slice_split-cons_yes, slice_split-cons_no}
+use Rattle.std.proofs.lemmas.List.Splits.{length-slice_split, slice_split-cons_yes, slice_split-cons_no}
+use Rattle.std.proofs.lemmas.List.Sums.{count_by-le-length, length-filter}
 
 module _ (p : ℕ → Bool) where
   pub before_first-yes : (b : ℕ) (l : List ℕ) → p b ≡ true → before_first p (b ∷ l) ≡ []
@@ -77,59 +78,39 @@ module _ (sep mark : ℕ → Bool) where
   pub tokens_by-comment : (b : ℕ) (l : List ℕ) → mark b ≡ true → tokens_by (b ∷ l) ≡ []
   tokens_by-comment b l e = ap (λ t. filter is_filled (slice_split sep t)) (before_first-yes mark b l e)
 
-  -- a comment goes on to the end, and nothing has no part
-  record FirstPart (line : List ℕ) : Type 0 where
-    others : List (List ℕ)
-    cut : slice_split sep (before_first mark line) ≡ take_while goes line ∷ others
-    rest : filter is_filled others ≡ tokens_by (after_all goes line)
-
-  goes-yes : (b : ℕ) → sep b ≡ false → mark b ≡ false → goes b ≡ true
-  goes-yes b s e = rw (s, e) refl
-
-  goes-separator : (b : ℕ) → sep b ≡ true → goes b ≡ false
-  goes-separator b s = rw s refl
-
-  goes-comment : (b : ℕ) → mark b ≡ true → goes b ≡ false
-  goes-comment b e = grind (arith, common_steps)
+  -- the first part of a line, up to a separator or its comment, and the tokens behind it
+  pub record FirstPart (line : List ℕ) : Type 0 where
+    pub others : List (List ℕ)
+    pub cut : slice_split sep (before_first mark line) ≡ take_while goes line ∷ others
+    pub rest : filter is_filled others ≡ tokens_by (after_all goes line)
 
   module _ (apart : (b : ℕ) → sep b ≡ true → mark b ≡ false) where
-    part-comment : (b : ℕ) (l : List ℕ) → mark b ≡ true → FirstPart (b ∷ l)
-    part-comment b l e = record {
-      others = [];
-      cut = rw (before_first-yes mark b l e, take_while-no goes b l (goes-comment b e)) refl;
-      rest = rw (after_all-no goes b l (goes-comment b e)) (sym (tokens_by-comment b l e));
-    }
-
-    part-separator : (b : ℕ) (l : List ℕ) → sep b ≡ true → FirstPart (b ∷ l)
-    part-separator b l s = record {
-      others = slice_split sep (before_first mark l);
-      cut = rw (
-        before_first-no mark b l (apart b s),
-        slice_split-cons_yes sep b (before_first mark l) s,
-        take_while-no goes b l (goes-separator b s),
-      ) refl;
-      rest = rw (after_all-no goes b l (goes-separator b s)) (sym (tokens_by-separator apart b l s));
-    }
-
-    part-more : (b : ℕ) (l : List ℕ) → sep b ≡ false → mark b ≡ false → FirstPart l → FirstPart (b ∷ l)
-    part-more b l s e h = record {
-      others = h.others;
-      cut = rw (
-        before_first-no mark b l e,
-        slice_split-cons_no sep b (before_first mark l) s,
-        h.cut,
-        take_while-yes goes b l (goes-yes b s e),
-      ) refl;
-      rest = rw (after_all-yes goes b l (goes-yes b s e)) h.rest;
-    }
-
-    part : (l : List ℕ) → FirstPart l
+    pub part : (l : List ℕ) → FirstPart l
     part [] = record { others = []; cut = refl; rest = refl }
     part (b ∷ l) = elim (cases_Bool (mark b)) [
-      | inl so ↦ part-comment b l so
+      | inl so ↦
+          let stops : goes b ≡ false = grind (arith, common_steps) in
+          record {
+            others = [];
+            cut = rw (before_first-yes mark b l so, take_while-no goes b l stops) refl;
+            rest = rw (after_all-no goes b l stops) (sym (tokens_by-comment b l so));
+          }
       | inr odd ↦ elim (cases_Bool (sep b)) [
-        | inl so ↦ part-separator b l so
-        | inr other ↦ part-more b l other odd (part l)
+        | inl so ↦
+            let stops : goes b ≡ false = rw so refl in
+            record {
+              others = slice_split sep (before_first mark l);
+              cut = rw (before_first-no mark b l odd, slice_split-cons_yes sep b (before_first mark l) so, take_while-no goes b l stops) refl;
+              rest = rw (after_all-no goes b l stops) (sym (tokens_by-separator apart b l so));
+            }
+        | inr other ↦
+            let on : goes b ≡ true = rw (other, odd) refl in
+            let h = part l in
+            record {
+              others = h.others;
+              cut = rw (before_first-no mark b l odd, slice_split-cons_no sep b (before_first mark l) other, h.cut, take_while-yes goes b l on) refl;
+              rest = rw (after_all-yes goes b l on) h.rest;
+            }
       ]
     ]
 
@@ -149,26 +130,22 @@ module _ (sep mark : ℕ → Bool) where
           → (tokens_by m ≡ take (length l - length r) l ∷ tokens_by r) × (r ≡ after_all goes l)
       next-token b t r e odd read =
           let s : sep b ≡ false = after_all-first sep m b t (sym e ∙ skipped) in
-          let g : goes b ≡ true = goes-yes b s odd in
+          let g : goes b ≡ true = rw (s, odd) refl in
           let after : r ≡ after_all goes l = read ∙ sym (after_all-yes goes b t g) ∙ ap (after_all goes) (sym e) in
           let front : take (length l - length r) l ≡ take_while goes l = rw after (take-after_all goes l) in
           let filled : is_filled (take_while goes l) ≡ true = rw (e, take_while-yes goes b t g) refl in
           let h = part l in
           (rw (front, after) (begins ∙ (rw (h.cut, filled, h.rest) refl)), after)
 
-  length-onto_first : (b : ℕ) (parts : List (List ℕ))
-      → length (filter is_filled (onto_first b parts)) ≤ suc (length (filter is_filled parts))
-  length-onto_first b [] = omega arith
-  length-onto_first b ([] ∷ parts) = omega arith
-  length-onto_first b ((d ∷ part) ∷ parts) = omega arith
-
-  length-filled : (l : List ℕ) → length (filter is_filled (slice_split sep l)) ≤ length l
-  length-filled [] = omega arith
-  length-filled (b ∷ l) = elim (cases_Bool (sep b)) [
-    | inl so ↦ rw (slice_split-cons_yes sep b l so) (omega (arith, length-filled l))
-    | inr odd ↦ rw (slice_split-cons_no sep b l odd) (omega (arith, length-filled l, length-onto_first b (slice_split sep l)))
-  ]
-
-  -- no more tokens than bytes
-  pub length-tokens_by : (l : List ℕ) → length (tokens_by l) ≤ length l
-  length-tokens_by l = omega (arith, length-filled (before_first mark l), length-take {A = ℕ} (position_or_len mark l) l)
+  -- at most one token more than bytes
+  pub tokens_few : (l : List ℕ) → length (tokens_by l) ≤ length l + 1
+  tokens_few l =
+      let front : List ℕ = before_first mark l in
+      omega (
+        arith,
+        length-filter is_filled (slice_split sep front),
+        count_by-le-length is_filled (slice_split sep front),
+        length-slice_split sep front,
+        count_by-le-length sep front,
+        length-take {A = ℕ} (position_or_len mark l) l,
+      )

@@ -19,6 +19,7 @@ static VALUES: [u8; 256] = [
 ];
 
 /// The value of a hexadecimal digit.
+#[tactic(auto, using(crate::proofs::HexValues::digit_value, crate::proofs::HexValues::no_value))]
 #[inline(always)]
 pub(crate) fn hex_value(b: u8) -> Option<u8>
     ensures value { result ≡ hex_value b }

@@ -1,4 +1,5 @@
 //! The end of a line's tokens.
+#![tactic(auto, unfolding(crate::specs::Left::left))]
 
 ghost use Rattle.std.specs.Prelude.{[], IfSome};
 ghost use Rattle.lx_spec.specs.Text.{tokens};
@@ -33,6 +34,7 @@ impl<'a> Tokens<'a> {
 }
 
 /// The number that a line of digits alone is.
+#[tactic(auto, using(crate::proofs::PlainNumbers::digits_alone))]
 #[inline(always)]
 fn last_number(line: &[u8]) -> Option<u32>
     ensures { IfSome result (λ n. FirstIsNumber (tokens line.now) n []) }

@@ -1,6 +1,7 @@
 //! Numbers of digits alone, read in one pass over their bytes.
+#![tactic(auto, using(crate::proofs::PlainNumbers::number_first))]
 
-ghost use Rattle.std.specs.Prelude.{◌≡◌, ◌<◌, ◌≤◌, true, length, IfSome};
+ghost use Rattle.std.specs.Prelude.{◌≡◌, ◌<◌, ◌≤◌, ◌+◌, ◌*◌, true, length, IfSome, List, ℕ};
 ghost use Rattle.lx_spec.specs.Text.{is_separator, after_all, tokens};
 ghost use Rattle.lx_lex.specs.PlainNumber.{BeginsWithDigits, EndsToken, FirstIsLevel, FirstIsNumber};
 
@@ -8,9 +9,6 @@ use crate::digits::digit;
 use crate::hex::hex_value;
 use crate::scan::{is_separator, past_separators};
 use lx_base::Level;
-
-/// A number from here on isn't read any further: it is far above every limit.
-const FAR: u32 = 100_000_000;
 
 /// The number that the first token is, and what follows it and the separator that ends it. None where it isn't digits
 /// alone, or has more digits than any number within its limit, but for zeros before it.
@@ -88,66 +86,60 @@ pub(crate) fn first_full(line: &[u8]) -> Option<(Level, &[u8])>
     Some((255, others))
 }
 
-/// The number that the digits at the front spell, where four bytes are left the first four of them, and what follows
-/// these. None where no digit stands there.
+/// The number that the digits at the front spell, the first four of them, and what follows these. None where no digit stands there.
 #[inline(always)]
 fn front_digits(text: &[u8]) -> Option<(u32, &[u8])>
     ensures digits { IfSome result (λ p. BeginsWithDigits text.now p.0 p.1.now) }
     ensures some { IfSome result (λ p. length p.1.now < length text.now) }
 {
     if text.len() < 4 {
-        first_digits(text)
+        few_digits(text)
     } else {
         four_digits(text)
     }
 }
 
-/// The number that the first four bytes spell, up to the first of them that is no digit, and what follows these digits. None
-/// where the first byte is no digit.
-#[inline(always)]
-fn four_digits(text: &[u8]) -> Option<(u32, &[u8])>
-    requires { 4 ≤ length text.now }
+/// The same where fewer than four bytes are left. Only here it is asked whether there is another byte.
+#[inline(never)]
+fn few_digits(text: &[u8]) -> Option<(u32, &[u8])>
     ensures digits { IfSome result (λ p. BeginsWithDigits text.now p.0 p.1.now) }
     ensures some { IfSome result (λ p. length p.1.now < length text.now) }
 {
-    let one = u32::from(digit(text[0])?);
-    let Some(second) = digit(text[1]) else {
-        return Some((one, &text[1..]));
-    };
-    let two = 10 * one + u32::from(second);
-    let Some(third) = digit(text[2]) else {
-        return Some((two, &text[2..]));
-    };
-    let three = 10 * two + u32::from(third);
-    let Some(fourth) = digit(text[3]) else {
-        return Some((three, &text[3..]));
-    };
-    Some((10 * three + u32::from(fourth), &text[4..]))
+    four_digits(text)
 }
 
-/// The number that the digits at the front spell and what follows them. None where no digit stands there.
-#[inline(never)]
-fn first_digits(text: &[u8]) -> Option<(u32, &[u8])>
+/// The same of any text.
+#[inline(always)]
+fn four_digits(text: &[u8]) -> Option<(u32, &[u8])>
     ensures digits { IfSome result (λ p. BeginsWithDigits text.now p.0 p.1.now) }
     ensures some { IfSome result (λ p. length p.1.now < length text.now) }
 {
-    let mut number = 0;
-    let mut rest = text;
-    while let [b, tail @ ..] = rest {
-        let Some(digit) = digit(*b) else {
-            break;
-        };
-        if number >= FAR {
-            return None;
-        }
-        number = 10 * number + u32::from(digit);
-        rest = tail;
+    let (one, first) = digit_more(0, text)?;
+    let Some((two, second)) = digit_more(one, first) else {
+        return Some((one, first));
+    };
+    let Some((three, third)) = digit_more(two, second) else {
+        return Some((two, second));
+    };
+    match digit_more(three, third) {
+        Some(four) => Some(four),
+        None => Some((three, third)),
     }
-    if rest.len() < text.len() {
-        Some((number, rest))
-    } else {
-        None
-    }
+}
+
+/// The number with the digit at the front of the text behind it, and what follows that. None where no digit stands there.
+#[inline(always)]
+fn digit_more(number: u32, text: &[u8]) -> Option<(u32, &[u8])>
+    requires { number < 1000 }
+    ensures digits { IfSome result (λ p. (line : List ℕ) → BeginsWithDigits line number text.now → BeginsWithDigits line p.0 p.1.now) }
+    ensures some { IfSome result (λ p. length p.1.now < length text.now) }
+    ensures bound { IfSome result (λ p. p.0 ≤ 10 * number + 9) }
+{
+    let [b, rest @ ..] = text else {
+        return None;
+    };
+    let digit = digit(*b)?;
+    Some((10 * number + u32::from(digit), rest))
 }
 
 /// What follows this separator, before which a token ends. None where another byte or nothing is there.

@@ -32,26 +32,14 @@ pub fn put_whole<K: Sink>(value: u32, sink: &mut K) -> Result<(), SinkFault>
 pub fn put_count<K: Sink>(value: u64, sink: &mut K) -> Result<(), SinkFault>
     ensures { Puts K.Sink sink.old sink.new result (decimal value) }
 {
-    sink.put_text(&Numeral {
-        start: b"",
-        whole: value,
-        rest: 0,
-        unit: 1,
-        behind: None,
-    })
+    put_numeral(b"", value, 0, 1, None, sink)
 }
 
 /// Appends a count in decimal, without leading zeros, and a byte behind it, as one piece.
 pub fn put_count_and<K: Sink>(value: u64, behind: u8, sink: &mut K) -> Result<(), SinkFault>
     ensures { Puts K.Sink sink.old sink.new result (decimal value ++ behind ∷ []) }
 {
-    sink.put_text(&Numeral {
-        start: b"",
-        whole: value,
-        rest: 0,
-        unit: 1,
-        behind: Some(behind),
-    })
+    put_numeral(b"", value, 0, 1, Some(behind), sink)
 }
 
 /// Appends a number in hundredths, as a time in hundredths of a second: the whole part and, where they aren't 0, a
@@ -59,14 +47,14 @@ pub fn put_count_and<K: Sink>(value: u64, behind: u8, sink: &mut K) -> Result<()
 pub fn put_hundredths<K: Sink>(value: u32, sink: &mut K) -> Result<(), SinkFault>
     ensures { Puts K.Sink sink.old sink.new result (time_text value) }
 {
-    put_decimal(value, 100, sink)
+    put_decimal(b"", value, 100, None, sink)
 }
 
 /// Appends a number in hundredths, as by `put_hundredths`, and a byte behind it, as one piece.
 pub fn put_hundredths_and<K: Sink>(value: u32, behind: u8, sink: &mut K) -> Result<(), SinkFault>
     ensures { Puts K.Sink sink.old sink.new result (time_text value ++ behind ∷ []) }
 {
-    put_decimal_and(value, 100, behind, sink)
+    put_decimal(b"", value, 100, Some(behind), sink)
 }
 
 /// Appends a cue number: whole cues and, where they aren't 0, a point and the decimals without a trailing zero. How
@@ -74,14 +62,14 @@ pub fn put_hundredths_and<K: Sink>(value: u32, behind: u8, sink: &mut K) -> Resu
 pub fn put_cue_no<K: Sink>(number: CueNo, sink: &mut K) -> Result<(), SinkFault>
     ensures { Puts K.Sink sink.old sink.new result (decimal_text CUE_UNIT number) }
 {
-    put_decimal(number.get(), CUE_UNIT, sink)
+    put_decimal(b"", number.get(), CUE_UNIT, None, sink)
 }
 
 /// Appends a cue number, as by `put_cue_no`, and a byte behind it, as one piece.
 pub fn put_cue_no_and<K: Sink>(number: CueNo, behind: u8, sink: &mut K) -> Result<(), SinkFault>
     ensures { Puts K.Sink sink.old sink.new result (decimal_text CUE_UNIT number ++ behind ∷ []) }
 {
-    put_decimal_and(number.get(), CUE_UNIT, behind, sink)
+    put_decimal(b"", number.get(), CUE_UNIT, Some(behind), sink)
 }
 
 /// Appends a start of up to 22 bytes, a cue number, as by `put_cue_no`, and a byte behind it, as one piece.
@@ -95,13 +83,7 @@ pub fn put_cue_no_between<K: Sink>(
     requires { length start.now ≤ 22 }
     ensures { Puts K.Sink sink.old sink.new result (start.now ++ (decimal_text CUE_UNIT number ++ behind ∷ [])) }
 {
-    sink.put_text(&Numeral {
-        start,
-        whole: u64::from(number.get() / CUE_UNIT),
-        rest: number.get() % CUE_UNIT,
-        unit: CUE_UNIT,
-        behind: Some(behind),
-    })
+    put_decimal(start, number.get(), CUE_UNIT, Some(behind), sink)
 }
 
 /// Appends a level, 0 to 255: `H` and two hexadecimal digits, letters in upper case. 10 is `H0A`. This is the form of
@@ -124,38 +106,52 @@ fn hex_digit(value: u8) -> u8
     }
 }
 
-/// Appends a number in parts of a unit: the whole part and the decimals, as far as they aren't 0, at most three.
-fn put_decimal<K: Sink>(value: u32, unit: u32, sink: &mut K) -> Result<(), SinkFault>
-    requires some { 0 < unit }
-    requires few { unit ≤ 1000 }
-    ensures { Puts K.Sink sink.old sink.new result (decimal_text unit value) }
-{
-    sink.put_text(&Numeral {
-        start: b"",
-        whole: u64::from(value / unit),
-        rest: value % unit,
-        unit,
-        behind: None,
-    })
-}
-
-/// The same, and a byte behind it.
-fn put_decimal_and<K: Sink>(
+/// Appends a start, a number in parts of a unit, with the decimals as far as they aren't 0, at most three, and a byte behind it, where
+/// there is one.
+#[inline(always)]
+fn put_decimal<K: Sink>(
+    start: &[u8],
     value: u32,
     unit: u32,
-    behind: u8,
+    behind: Option<u8>,
     sink: &mut K,
 ) -> Result<(), SinkFault>
+    requires short { length start.now ≤ START_BYTES }
     requires some { 0 < unit }
     requires few { unit ≤ 1000 }
-    ensures { Puts K.Sink sink.old sink.new result (decimal_text unit value ++ behind ∷ []) }
+    ensures { Puts K.Sink sink.old sink.new result (start.now ++ (decimal_text unit value ++ behind_text behind)) }
+{
+    put_numeral(
+        start,
+        u64::from(value / unit),
+        value % unit,
+        unit,
+        behind,
+        sink,
+    )
+}
+
+/// The same of a whole number and a rest of the unit.
+#[inline(always)]
+fn put_numeral<K: Sink>(
+    start: &[u8],
+    whole: u64,
+    rest: u32,
+    unit: u32,
+    behind: Option<u8>,
+    sink: &mut K,
+) -> Result<(), SinkFault>
+    requires short { length start.now ≤ START_BYTES }
+    requires part { rest < unit }
+    requires few { unit ≤ 1000 }
+    ensures { Puts K.Sink sink.old sink.new result (start.now ++ (decimal whole ++ (decimals_text unit rest ++ behind_text behind))) }
 {
     sink.put_text(&Numeral {
-        start: b"",
-        whole: u64::from(value / unit),
-        rest: value % unit,
+        start,
+        whole,
+        rest,
         unit,
-        behind: Some(behind),
+        behind,
     })
 }
 
@@ -212,6 +208,7 @@ fn write_whole(value: u64, room: &mut [u8; TEXT_ROOM], at: usize) -> usize
 }
 
 /// Writes a number of one digit at a place, and says where it ends. Most numbers of a reply are of one.
+#[tactic(auto, using(std::proofs::lemmas::List::take_more_set, std::proofs::lemmas::Fmt::decimal_digit))]
 #[inline(always)]
 fn write_digit(value: u8, room: &mut [u8; TEXT_ROOM], at: usize) -> usize
     requires place { at ≤ START_BYTES }
@@ -251,6 +248,7 @@ fn digits_of(value: u64) -> usize
 }
 
 /// How many digits a number below 10,000 has.
+#[tactic(auto, using(crate::proofs::Decimals::digit_counts))]
 #[inline(always)]
 fn digits_of_few(value: u64) -> usize
     requires { value < 10000 }

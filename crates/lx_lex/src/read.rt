@@ -90,6 +90,7 @@ fn read_hex(token: &[u8]) -> Result<Level, Bad>
 }
 
 /// Seconds, in hundredths.
+#[tactic(auto, using(crate::proofs::Fractions::hundred))]
 fn read_seconds(token: &[u8]) -> Result<Cs, Bad>
     ensures { result ≡ read_seconds token.now }
 {
@@ -99,6 +100,7 @@ fn read_seconds(token: &[u8]) -> Result<Cs, Bad>
     }
 }
 
+#[tactic(auto, using(crate::proofs::Fractions::hundred))]
 /// Minutes and seconds, in hundredths of a second: at most 99 minutes, and 59 whole seconds of one or two digits.
 fn read_minutes(minutes: &[u8], seconds: &[u8]) -> Result<Cs, Bad>
     ensures { result ≡ read_minutes minutes.now seconds.now }

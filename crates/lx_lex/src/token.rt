@@ -1,4 +1,5 @@
 //! An iterator over the tokens of a line.
+#![tactic(auto, unfolding(crate::specs::Left::left))]
 
 use crate::plain::{first_full, first_hex, first_number, number_before};
 use crate::ready::past_channel;

@@ -106,6 +106,7 @@ fn put_far<K: Sink>(number: u64, level: Level, sink: &mut K) -> Result<(), SinkF
 }
 
 /// How many bytes a space and a near number have.
+#[tactic(auto, using(lx_lex::proofs::Decimals::digit_counts))]
 fn width_of(number: u64) -> usize
     requires { number ≤ NEAR }
     ensures least { 2 ≤ result }

@@ -1,9 +1,7 @@
-use Rattle.lx_lex.proofs.Imports.{◌≡◌, ◌≤◌, ℕ, suc, ◌+◌, ◌-◌, true, nat_le, length, ap, ◌∙◌, arith, nat_tests, tokens, after_tokens}
+use Rattle.lx_lex.proofs.Imports.{◌≡◌, suc, ◌+◌, ◌-◌, length, ap, ◌∙◌, arith, tokens, after_tokens}
 use Rattle.lx_lex.proofs.Imports.{after_all, is_blank}
+use Rattle.lx_spec.proofs.Comparisons.{le_true}
 use Rattle.lx_lex.proofs.cut.rest_after.Goals as goal
-
-le-true : (k n : ℕ) → k ≤ n → nat_le k n ≡ true
-le-true k n h = grind (arith, nat_tests)
 
 pub loop-preserved : goal.loop-preserved
 loop-preserved c =
@@ -14,5 +12,5 @@ pub returns : goal.returns
 returns c =
     let z : c.args.count - c.loop.counter ≡ 0 = omega arith in
     let r : c.loop.rest.now ≡ after_tokens c.args.count c.args.line.now = rw z at c.loop.invariant.0 in
-    let t = le-true c.args.count (length (tokens c.args.line.now)) (omega arith) in
+    let t = le_true c.args.count (length (tokens c.args.line.now)) (omega arith) in
     rw (t, ← r) (c.past_blanks.ensures ∙ ap (after_all is_blank) c.past_separator.ensures)

@@ -1,7 +1,9 @@
-use Rattle.lx_lex.proofs.PlainNumbers.{number_and_others}
+use Rattle.lx_lex.proofs.Imports.{is_separator, begins_comment}
+use Rattle.lx_lex.proofs.LineCuts.{tokens_by-skip}
+use Rattle.lx_lex.proofs.Separators.{apart}
+use Rattle.lx_lex.proofs.PlainNumbers.{number_first}
 use Rattle.lx_lex.proofs.plain.number_behind.Goals as goal
 
 pub returns : goal.returns
-returns c =
-    number_and_others c.args.line.now c.past_separators.result.now c.in_ok-number.rest.now c.in_ok-others.others.now c.in_ok-number.number
-    c.past_separators.ensures c.in_ok-number.ensures.digits c.in_ok-number.ensures.some c.in_ok-others.ensures
+returns c = rw (tokens_by-skip is_separator begins_comment apart c.args.line.now, ← c.past_separators.ensures)
+    (number_first c.in_ok-number.ensures.digits c.in_ok-number.ensures.some c.in_ok-others.ensures)
