@@ -2,17 +2,13 @@
 use Rattle.lx_fade.proofs.Imports.{◌≡◌, ℕ, ◌+◌, ◌<◌, ◌≤◌, Bool, true, false, cond, nat_lt, List, [], ◌∷◌, length, slice_set, refl}
 use Rattle.lx_fade.proofs.Imports.{arith, ◌∙◌, ap, sym, nat_tests, Fade, begun_by, pushed, StartsFall, stack_column, stack_in, common_steps}
 use Rattle.std.specs.List.{AllByRecursion}
+use Rattle.lx_spec.proofs.Lists.{each}
 use Rattle.lx_fade.proofs.Rows.{column_whole}
 
 -- a fade written at the end of the stack is its newest
 pub stack_in-written : (row : List Fade) (kept : ℕ) (fade : Fade) → kept < length row
     → stack_in (slice_set row kept fade) (kept + 1) ≡ fade ∷ stack_in row kept
 stack_in-written row kept fade room = grind (arith, common_steps)
-
--- starts that are at most one moment are at most a later one
-later : (s m : ℕ) (stack : List Fade) → s ≤ m → AllByRecursion (λ f. f.start ≤ s) stack → AllByRecursion (λ f. f.start ≤ m) stack
-later s m [] le all = tt
-later s m (fade ∷ older) le all = (omega (arith, all.0), later s m older le all.1)
 
 Begun : ℕ → List Fade → Type 0
 Begun s stack = AllByRecursion (λ f. f.start ≤ s) stack × StartsFall stack
@@ -22,7 +18,7 @@ falls_step : (b : Bool) (s : ℕ) (fade : Fade) (older : List Fade) → nat_lt s
 unfolding Begun
 falls_step true s fade older h falls rest = rest
 falls_step false s fade older h falls rest = let le : fade.start ≤ s =
-    grind (arith, nat_tests) in ((le, later fade.start s older le falls.0), falls)
+    grind (arith, nat_tests) in ((le, each _ _ older (λ f h. omega (arith, le)) falls.0), falls)
 
 falls : (s : ℕ) (stack : List Fade) → StartsFall stack → Begun s (begun_by s stack)
 unfolding Begun

@@ -1,8 +1,9 @@
 -- Places that follow one another.
-use Rattle.lx_patch.proofs.Imports.{◌≡◌, ℕ, ◌+◌, ◌-◌, ◌%◌, ◌^◌, ◌<◌, ◌≤◌, Bool, false, cond, eqb, not, List, [], ◌∷◌}
-use Rattle.lx_patch.proofs.Imports.{map, length, get_or, replicate, w16, refl, sym, ap, ◌∙◌, arith, range_with_len, not-true, not-false, eqb-true}
+use Rattle.lx_patch.proofs.Imports.{◌≡◌, ℕ, ◌+◌, ◌-◌, ◌%◌, ◌^◌, ◌<◌, ◌≤◌, Bool, false, cond, eqb, not, List}
+use Rattle.lx_patch.proofs.Imports.{map, length, get_or, replicate, w16, sym, ap, ◌∙◌, arith, range_with_len, not-true, not-false, eqb-true}
 use Rattle.lx_patch.proofs.Imports.{get_or-replicate, length-replicate, length-zip2, get_or-zip2, length-chunk, get_or-chunk, tops_compared, mask_l-mod}
 use Rattle.lx_patch.proofs.Imports.{leading_from_mask_l, HasLanes, apart, AreInARow}
+use Rattle.std.proofs.lemmas.List.{map-id}
 use Rattle.std.proofs.lemmas.List.FromFn.{get_or-range_with_len}
 use Rattle.std.proofs.lemmas.List.Sums.{prefix_len_passes}
 use lib.Lanes.{chunk, zip2, mask_l, top}
@@ -12,10 +13,6 @@ steps = range_with_len 0 32
 
 abbrev pub row_from : ℕ → List ℕ
 row_from first = zip2 (λ a b. (a + b) % 65536) (replicate 32 first) steps
-
-map_self : (bits : List Bool) → map (λ b. b) bits ≡ bits
-map_self [] = refl
-map_self (b ∷ bits) = ap (λ rest. b ∷ rest) (map_self bits)
 
 module _ (places : List ℕ) (at first : ℕ) (room : at + 32 ≤ length places) (is : get_or places at 0 ≡ first) (low : first ≤ 65504) where
   abbrev bits : List Bool
@@ -43,7 +40,7 @@ module _ (places : List ℕ) (at first : ℕ) (room : at + 32 ≤ length places)
   none : mask_l (map (top 15) (zip2 (λ a b. cond (apart a b) 65535 0) (chunk at 32 places) (row_from first))) % 2 ^ 64 ≡ 0
       → mask_l (map (λ b. b) bits) ≡ 0
   none zero_mask =
-      ap mask_l (map_self bits) ∙ sym (mask_l-mod bits 64 (omega (arith, long)))
+      ap mask_l (map-id bits) ∙ sym (mask_l-mod bits 64 (omega (arith, long)))
       ∙ sym (ap (λ bits. mask_l bits % 2 ^ 64) (tops_compared w16 apart (chunk at 32 places) (row_from first))) ∙ zero_mask
 
   pub row_is : mask_l (map (top 15) (zip2 (λ a b. cond (apart a b) 65535 0) (chunk at 32 places) (row_from first))) % 2 ^ 64 ≡ 0

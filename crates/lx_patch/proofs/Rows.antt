@@ -1,5 +1,5 @@
 -- A table of the patch goes on standing for its rows, as they are placed and taken out.
-use Rattle.lx_patch.proofs.Imports.{◌≡◌, ℕ, ◌-◌, ◌<◌, ◌≤◌, Bool, true, false, not, ◌==◌, ◌&&◌, Option, None, List, [], ◌∷◌}
+use Rattle.lx_patch.proofs.Imports.{◌≡◌, ℕ, ◌-◌, ◌<◌, ◌≤◌, Bool, true, false, not, ◌==◌, ◌&&◌, Option, None, Some, List, ◌∷◌}
 use Rattle.lx_patch.proofs.Imports.{find, option_map_or, arith, length, get_or, drop, drop-cons, set, replicate, suc, ◌∙◌, ap, sym, inl, inr}
 use Rattle.lx_patch.proofs.Imports.{length-replicate, get_or-replicate, cases_order, SLOTS, PatchRow, entry_at, placed, taken_out, table_of_same, table-set}
 use Rattle.lx_patch.proofs.Imports.{DimmerTable, IsWired, place_of, proportion_of, StandsForPatch}
@@ -16,23 +16,27 @@ wired_none places levels places_are levels_are = record {
   channels = λ e within. omega (arith, ap (λ (xs : List ℕ). get_or xs e 0) places_are ∙ get_or-replicate {A = ℕ} SLOTS e 0 0 within);
 }
 
+-- the rows change at one dimmer
+stands_set : {rows : List PatchRow} (now : List PatchRow) {places levels : List ℕ} (at : ℕ) (row : Option PatchRow)
+    → StandsForPatch rows (record { places = places; levels = levels }) → 1 ≤ at → at ≤ SLOTS → entry_at (λ x. x.dimmer) at now ≡ row
+    → ((c : ℕ) → (c ≡ at → ⊥) → entry_at (λ x. x.dimmer) c now ≡ entry_at (λ x. x.dimmer) c rows)
+    → StandsForPatch now (record
+    { places = set places (at - 1) (option_map_or (λ r. r.chan - 1) row 0); levels = set levels (at - 1) (option_map_or (λ r. r.level) row 0) })
+stands_set {rows} now {places} {levels} at row stands least most here others = record {
+  places = table-set SLOTS at _ (place_of rows) (place_of now) places stands.places least most (ap (λ (o : Option PatchRow). option_map_or (λ r. r.chan - 1) o 0) here)
+      (λ c other. ap (λ (o : Option PatchRow). option_map_or (λ r. r.chan - 1) o 0) (others c other));
+  levels = table-set SLOTS at _ (proportion_of rows) (proportion_of now) levels stands.levels least most (ap (λ (o : Option PatchRow). option_map_or (λ r. r.level) o 0) here)
+      (λ c other. ap (λ (o : Option PatchRow). option_map_or (λ r. r.level) o 0) (others c other));
+}
+
 -- a row is placed
-pub stands_placed : (rows : List PatchRow) (row : PatchRow) (places levels : List ℕ) (at chan : ℕ)
+pub stands_placed : (rows : List PatchRow) (row : PatchRow) {places levels : List ℕ} {at chan : ℕ}
     → StandsForPatch rows (record { places = places; levels = levels }) → at ≡ row.dimmer → chan ≡ row.chan → 1 ≤ at → at ≤ SLOTS
     → StandsForPatch (placed (λ x. x.dimmer) row rows)
     (record { places = set places (at - 1) (chan - 1); levels = set levels (at - 1) row.level })
-stands_placed rows row places levels at chan stands is chan_is least most = record {
-  places = table-set SLOTS at (chan - 1) (place_of rows) (place_of (placed (λ x. x.dimmer) row rows)) places stands.places least most
-      (ap (λ (o : Option PatchRow). option_map_or (λ r. r.chan - 1) o 0) (entry_at-placed_here (λ x. x.dimmer) at row rows (sym is))
-      ∙ ap (λ n. n - 1) (sym chan_is))
-      (λ c other. ap (λ (o : Option PatchRow). option_map_or (λ r. r.chan - 1) o 0)
-      (entry_at-placed_other (λ x. x.dimmer) c row rows (λ same. other (sym same ∙ sym is))));
-  levels = table-set SLOTS at row.level (proportion_of rows) (proportion_of (placed (λ x. x.dimmer) row rows)) levels stands.levels least
-      most
-      (ap (λ (o : Option PatchRow). option_map_or (λ r. r.level) o 0) (entry_at-placed_here (λ x. x.dimmer) at row rows (sym is)))
-      (λ c other. ap (λ (o : Option PatchRow). option_map_or (λ r. r.level) o 0)
-      (entry_at-placed_other (λ x. x.dimmer) c row rows (λ same. other (sym same ∙ sym is))));
-}
+stands_placed rows row {at = at} stands is chan_is least most = rw chan_is (stands_set (placed (λ x. x.dimmer) row rows) at (Some row) stands least most
+    (entry_at-placed_here (λ x. x.dimmer) at row rows (sym is))
+    (λ c other. entry_at-placed_other (λ x. x.dimmer) c row rows (λ same. other (sym same ∙ sym is))))
 
 number_apart : (a n : ℕ) → not (a == n) ≡ true → (a == n) ≡ false
 number_apart a n apart = grind (arith, nat_tests)
@@ -53,19 +57,12 @@ others_stay n m rows other =
     find_both (λ row. not (row.dimmer == n)) (λ row. row.dimmer == m) rows ∙ ap (λ (t : PatchRow → Bool). find t rows) same
 
 -- a row is taken out
-pub stands_without : (rows : List PatchRow) (places levels : List ℕ) (at n : ℕ)
+pub stands_without : (rows : List PatchRow) (n : ℕ) {places levels : List ℕ} {at : ℕ}
     → StandsForPatch rows (record { places = places; levels = levels }) → at ≡ n → 1 ≤ at → at ≤ SLOTS
     → StandsForPatch (taken_out (λ x. x.dimmer) n rows) (record { places = set places (at - 1) 0; levels = set levels (at - 1) 0 })
-stands_without rows places levels at n stands is least most = record {
-  places = table-set SLOTS at 0 (place_of rows) (place_of (taken_out (λ x. x.dimmer) n rows)) places stands.places least most
-      (ap (λ e. place_of (taken_out (λ x. x.dimmer) n rows) e) is
-      ∙ ap (λ (o : Option PatchRow). option_map_or (λ r. r.chan - 1) o 0) (gone n rows))
-      (λ c other. ap (λ (o : Option PatchRow). option_map_or (λ r. r.chan - 1) o 0) (others_stay n c rows (λ same. other (same ∙ sym is))));
-  levels = table-set SLOTS at 0 (proportion_of rows) (proportion_of (taken_out (λ x. x.dimmer) n rows)) levels stands.levels least most
-      (ap (λ e. proportion_of (taken_out (λ x. x.dimmer) n rows) e) is
-      ∙ ap (λ (o : Option PatchRow). option_map_or (λ r. r.level) o 0) (gone n rows))
-      (λ c other. ap (λ (o : Option PatchRow). option_map_or (λ r. r.level) o 0) (others_stay n c rows (λ same. other (same ∙ sym is))));
-}
+stands_without rows n {at = at} stands is least most = stands_set (taken_out (λ x. x.dimmer) n rows) at None stands least most
+    (ap (λ e. entry_at (λ x. x.dimmer) e (taken_out (λ x. x.dimmer) n rows)) is ∙ gone n rows)
+    (λ c other. others_stay n c rows (λ same. other (same ∙ sym is)))
 
 -- the rows from a place on are the row there and those after it
 pub drop_before : (rows : List PatchRow) (i : ℕ) (row : PatchRow) → 0 < i → i ≤ length rows → row ≡ get_or rows (i - 1) row

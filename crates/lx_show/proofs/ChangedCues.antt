@@ -7,33 +7,13 @@ use Rattle.lx_show.proofs.Imports.{has_placed}
 pub with_settings : (channels : ℕ) (cue : Cue) (block asserted : Bool) (follow link : Option ℕ) (label : List ℕ) → ValidCue channels cue
     → IfSome follow IsTime → IfSome link (InRange CUE_MAX) → IsLabel label
     → ValidCue channels (record cue { block = block; asserted = asserted; follow = follow; link = link; label = label })
-with_settings channels cue block asserted follow link label valid is_time is_number is_label = record {
-  number = valid.number;
-  follow = is_time;
-  link = is_number;
-  label = is_label;
-  first_part = valid.first_part;
-  parts = valid.parts;
-  parts_sorted = valid.parts_sorted;
-  moves = valid.moves;
-  moves_sorted = valid.moves_sorted;
-}
+with_settings channels cue block asserted follow link label valid is_time is_number is_label = search
 
 -- other moves
 pub with_other_moves : (channels : ℕ) (cue : Cue) (moves : List Move) → ValidCue channels cue
     → AllByRecursion (ValidMove channels cue.parts) moves → IsStrictlySorted (λ m. m.chan) moves
     → ValidCue channels (record cue { moves = moves })
-with_other_moves channels cue moves valid all sorted = record {
-  number = valid.number;
-  follow = valid.follow;
-  link = valid.link;
-  label = valid.label;
-  first_part = valid.first_part;
-  parts = valid.parts;
-  parts_sorted = valid.parts_sorted;
-  moves = all;
-  moves_sorted = sorted;
-}
+with_other_moves channels cue moves valid all sorted = search
 
 -- a move placed
 pub with_move : (channels : ℕ) (cue : Cue) (m : Move) → ValidCue channels cue → ValidMove channels cue.parts m

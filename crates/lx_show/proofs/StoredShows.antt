@@ -1,194 +1,84 @@
 -- Shows that stay stored where an entry is exchanged or changed in its place.
-use Rattle.lx_show.proofs.Imports.{◌≡◌, ℕ, ◌<◌, ◌≤◌, inl, inr, List, length, set, get_or, refl, arith, ap, sym, subst, ◌∙◌, Bool, true}
-use Rattle.lx_show.proofs.Imports.{false, IsTrue, IfSome, Option, Some, None, not, nat_lt, ◌||◌, ◌==◌, ◌⊎◌, AllByRecursion, length-set, CUES}
-use Rattle.lx_show.proofs.Imports.{GROUPS, SUBS, DIMMERS, Move, PatchRow, IsStrictlySorted, has_entry, placed, StandsAt, Cue, Group, Sub, Show, Valid, ValidCue}
-use Rattle.lx_show.proofs.Imports.{ValidGroup, ValidSub, ValidPatchRow, IsStored, changed, exchanged_at, lt_from, each, kept_by, shorter, All-placed}
-use Rattle.lx_show.proofs.Imports.{IsStrictlySorted-placed, few_in_range, length-placed, length-placed_there}
-use Rattle.lx_show.proofs.Indexes.{replaced, sorted_replaced, changed_there}
-use Rattle.lx_show.proofs.ValidShows.{with_cues, with_groups, with_subs, with_patch}
-
-stored_cues : (show : Show) (new : List Cue) (a b c d e : ℕ) → IsStored show a b c d → e ≡ a → AllByRecursion (ValidCue show.channels) new
-    → IsStrictlySorted (λ cue. cue.number) new → length new ≤ CUES → IsStored (record show { cues = new }) e b c d
-stored_cues show new a b c d e stored same all sorted few = record {
-  valid = with_cues show new stored.valid all sorted few;
-  cue_room = omega (arith, stored.cue_room);
-  group_room = stored.group_room;
-  sub_room = stored.sub_room;
-  patch_room = stored.patch_room;
-}
-
-stored_groups : (show : Show) (new : List Group) (a b c d e : ℕ) → IsStored show a b c d → e ≡ b
-    → AllByRecursion (ValidGroup show.channels) new → IsStrictlySorted (λ group. group.number) new
-    → IsStored (record show { groups = new }) a e c d
-stored_groups show new a b c d e stored same all sorted = record {
-  valid = with_groups show new stored.valid all sorted;
-  cue_room = stored.cue_room;
-  group_room = omega (arith, stored.group_room);
-  sub_room = stored.sub_room;
-  patch_room = stored.patch_room;
-}
-
-stored_subs : (show : Show) (new : List Sub) (a b c d e : ℕ) → IsStored show a b c d → e ≡ c → AllByRecursion (ValidSub show.channels) new
-    → IsStrictlySorted (λ sub. sub.number) new → IsStored (record show { subs = new }) a b e d
-stored_subs show new a b c d e stored same all sorted = record {
-  valid = with_subs show new stored.valid all sorted;
-  cue_room = stored.cue_room;
-  group_room = stored.group_room;
-  sub_room = omega (arith, stored.sub_room);
-  patch_room = stored.patch_room;
-}
-
-stored_patch : (show : Show) (new : List PatchRow) (a b c d e : ℕ) → IsStored show a b c d → e ≡ d
-    → AllByRecursion (ValidPatchRow show.channels) new → IsStrictlySorted (λ row. row.dimmer) new
-    → IsStored (record show { patch = new }) a b c e
-stored_patch show new a b c d e stored same all sorted = record {
-  valid = with_patch show new stored.valid all sorted;
-  cue_room = stored.cue_room;
-  group_room = stored.group_room;
-  sub_room = stored.sub_room;
-  patch_room = omega (arith, stored.patch_room);
-}
-
-either : (a b : Bool) → IsTrue (a || b) → IsTrue a ⊎ IsTrue b
-either true b holds = inl refl
-either false b holds = inr holds
-
-less_from : (a b : ℕ) → IsTrue (nat_lt a b) → a < b
-less_from a b holds = lt_from a b holds
-
--- a cue that is there, or for which there is room, can be placed
-few_placed : (show seen : Show) (cue : Cue) → Valid show → show ≡ seen
-    → IsTrue (has_entry (λ x. x.number) cue.number seen.cues || nat_lt (length seen.cues) CUES)
-    → length (placed (λ x. x.number) cue show.cues) ≤ CUES
-few_placed show seen cue valid view room =
-    let here : IsTrue (has_entry (λ x. x.number) cue.number show.cues || nat_lt (length show.cues) CUES) =
-    subst (λ (s : Show). IsTrue (has_entry (λ x. x.number) cue.number s.cues || nat_lt (length s.cues) CUES)) (sym view) room in
-    elim (either (has_entry (λ x. x.number) cue.number show.cues) (nat_lt (length show.cues) CUES) here) [
-      | inl there ↦ omega (arith, length-placed_there (λ x. x.number) cue show.cues there, valid.few_cues)
-      | inr less ↦ omega (arith, length-placed (λ x. x.number) cue show.cues, less_from (length show.cues) CUES less)
-    ]
-
-few_exchanged : (show seen : Show) (n m : ℕ) (to : Option Cue) → Valid show → show ≡ seen → IfSome to (λ cue. cue.number ≡ n)
-    → IfSome to (λ _. IsTrue (has_entry (λ x. x.number) n seen.cues || nat_lt (length seen.cues) CUES))
-    → length (exchanged_at (λ x. x.number) m to show.cues) ≤ CUES
-few_exchanged show seen n m None valid view number room =
-    omega (arith, shorter (λ (x : Cue). not (x.number == m)) show.cues, valid.few_cues)
-few_exchanged show seen n m (Some cue) valid view number room = few_placed show seen cue valid view
-    (subst (λ k. IsTrue (has_entry (λ x. x.number) k seen.cues || nat_lt (length seen.cues) CUES)) (sym number) room)
-
-pub room_for_cue : (show seen : Show) (n : ℕ) (to : Option Cue) (a b c d : ℕ) → IsStored show a b c d → show ≡ seen
-    → IfSome to (λ cue. cue.number ≡ n)
-    → IfSome to (λ _. IsTrue (has_entry (λ x. x.number) n seen.cues || nat_lt (length seen.cues) CUES))
-    → IfSome to (λ cue. length (placed (λ x. x.number) cue show.cues) ≤ a)
-room_for_cue show seen n None a b c d stored view number room = tt
-room_for_cue show seen n (Some cue) a b c d stored view number room =
-    omega (arith, few_exchanged show seen n n (Some cue) stored.valid view number room, stored.cue_room)
-
--- what holds of each entry holds of each where one is exchanged
-All-exchanged : {A : Type 0} (P : A → Type 0) (key : A → ℕ) (n : ℕ) (to : Option A) (xs new : List A) → new ≡ exchanged_at key n to xs
-    → IfSome to P → AllByRecursion P xs → AllByRecursion P new
-All-exchanged P key n None xs new is here all = subst (AllByRecursion P) (sym is) (kept_by _ _ xs all)
-All-exchanged P key n (Some x) xs new is here all = subst (AllByRecursion P) (sym is) (All-placed _ _ x xs here all)
-
--- The show as it is kept is the one that callers see.
-pub stored_cue : (show seen : Show) (n m : ℕ) (to : Option Cue) (new : List Cue) (a b c d e : ℕ) → IsStored show a b c d → show ≡ seen → e ≡ a
-    → IfSome to (λ cue. cue.number ≡ n) → IfSome to (ValidCue seen.channels)
-    → IfSome to (λ _. IsTrue (has_entry (λ x. x.number) n seen.cues || nat_lt (length seen.cues) CUES))
-    → new ≡ exchanged_at (λ x. x.number) m to show.cues → IsStrictlySorted (λ x. x.number) new → IsStored (record show { cues = new }) e b c d
-stored_cue show seen n m to new a b c d e stored view same number valid room is sorted =
-    stored_cues show new a b c d e stored same
-    (All-exchanged _ _ m to show.cues new is (subst (λ (s : Show). IfSome to (ValidCue s.channels)) (sym view) valid) stored.valid.cues)
-    sorted (omega (arith, ap length is, few_exchanged show seen n m to stored.valid view number room))
-
-pub stored_group : (show seen : Show) (m : ℕ) (to : Option Group) (new : List Group) (a b c d e : ℕ) → IsStored show a b c d → show ≡ seen
-    → e ≡ b → IfSome to (ValidGroup seen.channels) → new ≡ exchanged_at (λ x. x.number) m to show.groups
-    → IsStrictlySorted (λ x. x.number) new → IsStored (record show { groups = new }) a e c d
-stored_group show seen m to new a b c d e stored view same valid is sorted =
-    stored_groups show new a b c d e stored same
-    (All-exchanged _ _ m to show.groups new is (subst (λ (s : Show). IfSome to (ValidGroup s.channels)) (sym view) valid) stored.valid.groups)
-    sorted
-
-pub stored_sub : (show seen : Show) (m : ℕ) (to : Option Sub) (new : List Sub) (a b c d e : ℕ) → IsStored show a b c d → show ≡ seen → e ≡ c
-    → IfSome to (ValidSub seen.channels) → new ≡ exchanged_at (λ x. x.number) m to show.subs → IsStrictlySorted (λ x. x.number) new
-    → IsStored (record show { subs = new }) a b e d
-stored_sub show seen m to new a b c d e stored view same valid is sorted =
-    stored_subs show new a b c d e stored same
-    (All-exchanged _ _ m to show.subs new is (subst (λ (s : Show). IfSome to (ValidSub s.channels)) (sym view) valid) stored.valid.subs) sorted
-
-pub stored_row : (show seen : Show) (m : ℕ) (to : Option PatchRow) (new : List PatchRow) (a b c d e : ℕ) → IsStored show a b c d → show ≡ seen
-    → e ≡ d → IfSome to (ValidPatchRow seen.channels) → new ≡ exchanged_at (λ x. x.dimmer) m to show.patch
-    → IsStrictlySorted (λ x. x.dimmer) new → IsStored (record show { patch = new }) a b c e
-stored_row show seen m to new a b c d e stored view same valid is sorted =
-    stored_patch show new a b c d e stored same
-    (All-exchanged _ _ m to show.patch new is (subst (λ (s : Show). IfSome to (ValidPatchRow s.channels)) (sym view) valid) stored.valid.patch)
-    sorted
+use Rattle.lx_show.proofs.Imports.{◌≡◌, ℕ, ◌≤◌, Bool, find, inl, inr, List, length, set, get_or, arith, ap, sym, subst, ◌∙◌, IsTrue, IfSome, Option, Some, None, not}
+use Rattle.lx_show.proofs.Imports.{nat_lt, ◌||◌, ◌==◌, Bor, AllByRecursion, length-set, CUES, IsStrictlySorted, entry_at, has_entry, placed, StandsAt, Cue, Show}
+use Rattle.lx_show.proofs.Imports.{Valid, ValidCue, IsStored, exchanged_at, option_copied, cue_of, InRange, lt_from, each, kept_by, lent_has, shorter}
+use Rattle.lx_show.proofs.Imports.{All-placed, IsStrictlySorted-placed, few_in_range, found_number, found_valid, length-placed, length-placed_there, cases_Bool}
+use Rattle.lx_show.proofs.Indexes.{replaced, stands_entry}
 
 -- there are no more entries than numbers
-pub few_groups : (show : Show) → Valid show → length show.groups ≤ GROUPS
-few_groups show valid = few_in_range (λ x. x.number) GROUPS show.groups valid.groups_sorted
-    (each _ _ show.groups (λ x h. h.number) valid.groups)
+pub few_kept : {A : Type 0} {P : A → Type 0} {key : A → ℕ} {limit : ℕ} (xs : List A) → ((x : A) → P x → InRange limit (key x)) → AllByRecursion P xs
+    → IsStrictlySorted key xs → length xs ≤ limit
+few_kept {key} {limit} xs range all sorted = few_in_range key limit xs sorted (each _ _ xs range all)
 
-pub few_subs : (show : Show) → Valid show → length show.subs ≤ SUBS
-few_subs show valid = few_in_range (λ x. x.number) SUBS show.subs valid.subs_sorted (each _ _ show.subs (λ x h. h.number) valid.subs)
+-- The show as it is kept is the one that callers see.
+module _ {A : Type 0} (P : ℕ → A → Type 0) (xs : List A) {show seen : Show} where
+  -- what is lent of a list is as all its entries are
+  pub lent_valid : (test : A → Bool) {shown : List A} (found : Option (Bor A)) → show ≡ seen → shown ≡ xs → option_copied found ≡ find test shown
+      → AllByRecursion (P show.channels) xs → IfSome found (λ x. P seen.channels x.now)
+  lent_valid test found view same is all = subst (λ (s : Show). IfSome found (λ x. P s.channels x.now)) view
+      (lent_has (P show.channels) test _ found is (subst (AllByRecursion (P show.channels)) (sym same) all))
 
-pub few_rows : (show : Show) → Valid show → length show.patch ≤ DIMMERS
-few_rows show valid = few_in_range (λ x. x.dimmer) DIMMERS show.patch valid.patch_sorted (each _ _ show.patch (λ x h. h.dimmer) valid.patch)
+  -- what holds of each entry holds of each where one is exchanged
+  pub All-exchanged : (key : A → ℕ) (n : ℕ) (to : Option A) {new : List A} → show ≡ seen → IfSome to (P seen.channels) → new ≡ exchanged_at key n to xs
+      → AllByRecursion (P show.channels) xs → AllByRecursion (P show.channels) new
+  All-exchanged key n None view here is all = rw is (kept_by _ _ xs all)
+  All-exchanged key n (Some x) view here is all = rw is (All-placed _ key x xs (subst (λ (s : Show). P s.channels x) (sym view) here) all)
 
--- there is room for each number
-pub room_for_group : (show seen : Show) (to : Option Group) (a b c d : ℕ) → IsStored show a b c d → show ≡ seen
-    → IfSome to (ValidGroup seen.channels) → IfSome to (λ group. length (placed (λ x. x.number) group show.groups) ≤ b)
-room_for_group show seen None a b c d stored view valid = tt
-room_for_group show seen (Some group) a b c d stored view valid =
-    let few : length (placed (λ x. x.number) group show.groups) ≤ GROUPS =
-    few_in_range (λ x. x.number) GROUPS (placed (λ x. x.number) group show.groups)
-    (IsStrictlySorted-placed _ group show.groups stored.valid.groups_sorted)
-    (All-placed _ _ group show.groups valid.number (each _ _ show.groups (λ x h. h.number) stored.valid.groups)) in
-    omega (arith, stored.group_room)
+  -- there is room for each number
+  pub room_for : {limit room : ℕ} (key : A → ℕ) (to : Option A) → ((x : A) → P show.channels x → InRange limit (key x)) → show ≡ seen → IfSome to (P seen.channels)
+      → AllByRecursion (P show.channels) xs → IsStrictlySorted key xs → limit ≤ room → IfSome to (λ x. length (placed key x xs) ≤ room)
+  room_for key None range view here all sorted wide = tt
+  room_for key (Some x) range view here all sorted wide = omega (
+    arith,
+    few_kept (placed key x xs) range
+        (All-placed _ key x xs (subst (λ (s : Show). P s.channels x) (sym view) here) all) (IsStrictlySorted-placed key x xs sorted),
+  )
 
-pub room_for_sub : (show seen : Show) (to : Option Sub) (a b c d : ℕ) → IsStored show a b c d → show ≡ seen
-    → IfSome to (ValidSub seen.channels) → IfSome to (λ submaster. length (placed (λ x. x.number) submaster show.subs) ≤ c)
-room_for_sub show seen None a b c d stored view valid = tt
-room_for_sub show seen (Some sub) a b c d stored view valid =
-    let few : length (placed (λ x. x.number) sub show.subs) ≤ SUBS =
-    few_in_range (λ x. x.number) SUBS (placed (λ x. x.number) sub show.subs)
-    (IsStrictlySorted-placed _ sub show.subs stored.valid.subs_sorted)
-    (All-placed _ _ sub show.subs valid.number (each _ _ show.subs (λ x h. h.number) stored.valid.subs)) in
-    omega (arith, stored.sub_room)
+-- a cue that is there, or for which there is room, can be placed
+module _ {show seen : Show} (n : ℕ) where
+  pub few_exchanged : (m : ℕ) (to : Option Cue) → Valid show → show ≡ seen → IfSome to (λ cue. cue.number ≡ n)
+      → IfSome to (λ _. IsTrue (has_entry (λ x. x.number) n seen.cues || nat_lt (length seen.cues) CUES))
+      → length (exchanged_at (λ x. x.number) m to show.cues) ≤ CUES
+  few_exchanged m None valid view number room = omega (arith, shorter (λ (x : Cue). not (x.number == m)) show.cues, valid.few_cues)
+  few_exchanged m (Some cue) valid view number room =
+      let here : IsTrue (has_entry (λ x. x.number) cue.number show.cues || nat_lt (length show.cues) CUES) =
+      rw number (subst (λ (s : Show). IsTrue (has_entry (λ x. x.number) n s.cues || nat_lt (length s.cues) CUES)) (sym view) room) in
+      elim (cases_Bool (has_entry (λ x. x.number) cue.number show.cues)) [
+        | inl there ↦ omega (arith, length-placed_there (λ x. x.number) cue show.cues there, valid.few_cues)
+        | inr new ↦ omega (arith, length-placed (λ x. x.number) cue show.cues, lt_from (length show.cues) CUES (rw new at here))
+      ]
 
-pub room_for_row : (show seen : Show) (to : Option PatchRow) (a b c d : ℕ) → IsStored show a b c d → show ≡ seen
-    → IfSome to (ValidPatchRow seen.channels) → IfSome to (λ row. length (placed (λ x. x.dimmer) row show.patch) ≤ d)
-room_for_row show seen None a b c d stored view valid = tt
-room_for_row show seen (Some row) a b c d stored view valid =
-    let few : length (placed (λ x. x.dimmer) row show.patch) ≤ DIMMERS =
-    few_in_range (λ x. x.dimmer) DIMMERS (placed (λ x. x.dimmer) row show.patch)
-    (IsStrictlySorted-placed _ row show.patch stored.valid.patch_sorted)
-    (All-placed _ _ row show.patch valid.dimmer (each _ _ show.patch (λ x h. h.dimmer) stored.valid.patch)) in
-    omega (arith, stored.patch_room)
+  pub room_for_cue : {a : ℕ} (to : Option Cue) → Valid show → CUES ≤ a → show ≡ seen → IfSome to (λ cue. cue.number ≡ n)
+      → IfSome to (λ _. IsTrue (has_entry (λ x. x.number) n seen.cues || nat_lt (length seen.cues) CUES))
+      → IfSome to (λ cue. length (placed (λ x. x.number) cue show.cues) ≤ a)
+  room_for_cue None valid wide view number room = tt
+  room_for_cue (Some cue) valid wide view number room = omega (arith, few_exchanged n (Some cue) valid view number room)
 
--- Changed in its place.
-pub stored_changed_cue : (show : Show) (n at : ℕ) (ys : List Cue) (new : Cue) (a b c d : ℕ) → IsStored show a b c d → ys ≡ show.cues
-    → StandsAt (λ x. x.number) n ys at → n ≡ new.number → ValidCue show.channels new
-    → IsStored (record show { cues = set show.cues at new }) a b c d
-stored_changed_cue show n at ys new a b c d stored same stands number valid =
-    stored_cues show (set show.cues at new) a b c d a stored refl
-    (subst (AllByRecursion (ValidCue show.channels)) (sym (replaced _ n ys show.cues new at number same stands))
-    (All-placed _ _ new show.cues valid stored.valid.cues))
-    (sorted_replaced _ n ys show.cues new at number same stands stored.valid.cues_sorted)
-    (omega (arith, length-set show.cues at new, stored.valid.few_cues))
+-- A cue where it stands in a show: it is the one that callers see, and another one of its number can be put there.
+pub record CueAt (show seen : Show) (n at : ℕ) (cue : Cue) (a b c d : ℕ) : Type 0 where
+  pub before : Valid seen
+  pub found : cue_of seen n ≡ Some cue
+  pub valid : ValidCue seen.channels cue
+  pub stored : (new : Cue) → new.number ≡ cue.number → ValidCue seen.channels new → IsStored (record show { cues = set show.cues at new }) a b c d
+  pub shown : (new : Cue) → new.number ≡ cue.number
+      → record show { cues = set show.cues at new } ≡ record seen { cues = placed (λ x. x.number) new seen.cues }
 
--- and that is the show with the entry of the number changed
-pub cue_changed : (show seen : Show) (n m at : ℕ) (ys : List Cue) (cue : Cue) (change : Cue → Cue) → show ≡ seen → n ≡ m → ys ≡ show.cues
-    → StandsAt (λ x. x.number) n ys at → cue ≡ get_or show.cues at cue → (change cue).number ≡ cue.number
-    → record show { cues = set show.cues at (change cue) } ≡ record seen { cues = changed (λ x. x.number) m change seen.cues }
-cue_changed show seen n m at ys cue change view number same stands is kept =
-    ap (λ (xs : List Cue). record show { cues = xs }) (changed_there (λ x. x.number) n at ys show.cues cue change same stands is kept)
-    ∙ ap (λ (s : Show). record s { cues = changed (λ x. x.number) n change s.cues }) view
-    ∙ ap (λ (k : ℕ). record seen { cues = changed (λ x. x.number) k change seen.cues }) number
-
-pub cue_moves_changed : (show seen : Show) (n m at : ℕ) (ys : List Cue) (cue : Cue) (new : List Move) (change : List Move → List Move)
-    → show ≡ seen → n ≡ m → ys ≡ show.cues → StandsAt (λ x. x.number) n ys at → cue ≡ get_or show.cues at cue → new ≡ change cue.moves
-    → record show { cues = set show.cues at (record cue { moves = new }) }
-    ≡ record seen { cues = changed (λ x. x.number) m (λ x. record x { moves = change x.moves }) seen.cues }
-cue_moves_changed show seen n m at ys cue new change view number same stands is changed_is =
-    ap (λ (xs : List Move). record show { cues = set show.cues at (record cue { moves = xs }) }) changed_is
-    ∙ cue_changed show seen n m at ys cue (λ x. record x { moves = change x.moves }) view number same stands is refl
+pub cue_at : {show seen : Show} {n m at : ℕ} {ys : List Cue} {x cue : Cue} {a b c d : ℕ} → IsStored show a b c d → show ≡ seen → n ≡ m
+    → ys ≡ show.cues → StandsAt (λ y. y.number) n ys at → cue ≡ x → x ≡ get_or show.cues at x → CueAt show seen m at cue a b c d
+cue_at {show} {seen} {n} {m} {at} {ys} {x} {cue} stored view number same place shows is =
+    let here : cue ≡ get_or show.cues at cue = subst (λ (y : Cue). y ≡ get_or show.cues at y) (sym shows) is in
+    let entry : entry_at (λ y. y.number) n show.cues ≡ Some cue = stands_entry (λ y. y.number) n at ys show.cues cue same place here in
+    let there : (new : Cue) → new.number ≡ cue.number → set show.cues at new ≡ placed (λ y. y.number) new show.cues =
+    λ new kept. replaced new (found_number (λ y. y.number) n show.cues cue entry ∙ sym kept) same place in record {
+      before = subst Valid view stored.valid;
+      found = sym (ap (λ (s : Show). cue_of s n) view ∙ ap (λ (k : ℕ). cue_of seen k) number) ∙ entry;
+      valid = subst (λ (s : Show). ValidCue s.channels cue) view (found_valid _ (λ y. y.number) n show.cues cue stored.valid.cues entry);
+      stored = λ new kept valid.
+          let all : AllByRecursion (ValidCue show.channels) (set show.cues at new) = rw (there new kept)
+          (All-placed _ _ new show.cues (subst (λ (s : Show). ValidCue s.channels new) (sym view) valid) stored.valid.cues) in
+          let sorted : IsStrictlySorted (λ y. y.number) (set show.cues at new) = rw (there new kept)
+          (IsStrictlySorted-placed _ new show.cues stored.valid.cues_sorted) in
+          let few : length (set show.cues at new) ≤ CUES = omega (arith, length-set show.cues at new, stored.valid.few_cues) in search;
+      shown = λ new kept. ap (λ (xs : List Cue). record show { cues = xs }) (there new kept)
+          ∙ ap (λ (s : Show). record s { cues = placed (λ y. y.number) new s.cues }) view;
+    }

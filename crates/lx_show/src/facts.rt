@@ -4,8 +4,8 @@
 ghost use Rattle.std.specs.List.{AllByRecursion};
 ghost use Rattle.lx_spec.specs.Show.{InRange, IsLabel, IsLevel};
 
-use lx_base::{CHANNELS, DIMMERS};
-use lx_spec::{Label, Member, Move, PatchRow};
+use lx_base::CHANNELS;
+use lx_spec::{Label, Member, Move};
 
 /// A move's channel is at least 1, and its level at most 255.
 fn of_move(entry: &Move)
@@ -32,17 +32,6 @@ pub fn of_member(entry: &Member)
 {
     let _ = entry.chan.get();
     let _level = entry.level;
-}
-
-/// A row's dimmer and channel are at least 1, and its level is at most 255.
-pub(crate) fn of_row(row: &PatchRow)
-    ensures dimmer { InRange DIMMERS row.now.dimmer }
-    ensures chan { InRange CHANNELS row.now.chan }
-    ensures level { IsLevel row.now.level }
-{
-    let _ = row.dimmer.get();
-    let _ = row.chan.get();
-    let _level = row.level;
 }
 
 /// A label is made as labels are.

@@ -1,13 +1,11 @@
 //! Several entries put into a list that is sorted by number, in turn. Those that rise and go between the same two
 //! neighbours are put there in one shift.
 
-ghost use Rattle.std.specs.Prelude.{◌≡◌, ◌<◌, true, ◌≤◌, ◌+◌, ◌-◌, ◌++◌, Some, length, take, drop, slice_get, vec_capacity, OnOk, OnErr};
-ghost use Rattle.std.specs.Option.{option_map};
+ghost use Rattle.std.specs.Prelude.{◌≡◌, ◌<◌, ◌≤◌, ◌+◌, ◌-◌, ◌++◌, IfSome, length, take, drop, slice_get, vec_capacity, OnOk, OnErr};
 ghost use Rattle.std.specs.List.{AllByRecursion};
 ghost use Rattle.lx_io.specs.Causes.{HasCause};
 ghost use Rattle.lx_spec.specs.SortedList.{IsStrictlySorted, all_placed};
-ghost use Rattle.lx_show.specs.Indexes.{StandsAt};
-ghost use Rattle.lx_show.specs.Stretch.{IsStretch};
+ghost use Rattle.lx_show.specs.Indexes.{GoesAt};
 
 use crate::sorted::{Keyed, index_near, stands_at};
 use lx_io::Heap;
@@ -45,21 +43,18 @@ fn put_front<T: Keyed + Copy + Drop>(xs: &mut Vec<T>, next: &mut usize, more: &[
     ensures some { 0 < result }
     ensures most { result ≤ length more.now }
     ensures items { xs.new.items ≡ all_placed T.key (take result more.now) xs.old.items }
-    ensures sorted { IsStrictlySorted T.key xs.new.items }
     ensures room { length xs.new.items + (length more.now - result) ≤ vec_capacity xs.new }
 {
     let first = more[0];
-    let number = first.key();
-    match index_near(xs.as_slice(), next, number) {
+    match index_near(xs.as_slice(), next, first.key()) {
         Ok(at) => {
             xs[at] = first;
-            let count = put_over(xs, at, more);
+            let count = put_over(xs, at.wrapping_add(1), &more[1..]) + 1;
             *next = at.saturating_add(count);
             count
         }
         Err(at) => {
-            let end = end_of_gap(xs.as_slice(), at, number);
-            let count = stretch(more, number, end);
+            let count = stretch(xs.as_slice(), at, more);
             insert_all(xs, at, &more[..count]);
             *next = at.saturating_add(count);
             count
@@ -67,20 +62,16 @@ fn put_front<T: Keyed + Copy + Drop>(xs: &mut Vec<T>, next: &mut usize, more: &[
     }
 }
 
-/// Puts the entries behind the first of them in place of those behind the index, as long as the numbers are the same. It
-/// says how many there are with the first.
+/// Puts the entries in place of those from the index on, as long as the numbers are the same. It says how many.
 fn put_over<T: Keyed + Copy + Drop>(xs: &mut Vec<T>, at: usize, more: &[T]) -> usize
-    requires some { 0 < length more.now }
-    requires sorted { IsStrictlySorted T.key xs.old.items }
-    ensures some { 0 < result }
+    requires { IsStrictlySorted T.key xs.old.items }
     ensures most { result ≤ length more.now }
-    ensures items { xs.new.items ≡ all_placed T.key (drop 1 (take result more.now)) xs.old.items }
-    ensures sorted { IsStrictlySorted T.key xs.new.items }
+    ensures items { xs.new.items ≡ all_placed T.key (take result more.now) xs.old.items }
     ensures same { length xs.new.items ≡ length xs.old.items }
     ensures capacity { vec_capacity xs.new ≡ vec_capacity xs.old }
 {
-    let mut count = 1;
-    let mut place = at.wrapping_add(1);
+    let mut count = 0;
+    let mut place = at;
     while count < more.len() {
         let entry = more[count];
         if stands_at(xs.as_slice(), place, entry.key()) {
@@ -94,29 +85,17 @@ fn put_over<T: Keyed + Copy + Drop>(xs: &mut Vec<T>, at: usize, more: &[T]) -> u
     count
 }
 
-/// The number of the entry at the index, or 2^32 where there is none.
-fn end_of_gap<T: Keyed>(xs: &[T], at: usize, n: u32) -> u64
+/// How many entries at the front rise from the first one on, and go to the index as that one does.
+fn stretch<T: Keyed>(xs: &[T], at: usize, more: &[T]) -> usize
+    requires some { 0 < length more.now }
     requires sorted { IsStrictlySorted T.key xs.now }
-    requires above { AllByRecursion (λ y. n < T.key y) (drop at xs.now) }
-    ensures above { n < result }
-    ensures rest { AllByRecursion (λ y. result ≤ T.key y) (drop at xs.now) }
-{
-    if at < xs.len() {
-        u64::from(xs[at].key())
-    } else {
-        0x1_0000_0000
-    }
-}
-
-/// How many entries at the front rise, from the first one on, and stay below a number.
-fn stretch<T: Keyed>(more: &[T], first: u32, end: u64) -> usize
-    requires first { option_map T.key (slice_get more.now 0) ≡ Some first }
-    requires below { first < end }
+    requires goes { IfSome (slice_get more.now 0) (λ x. GoesAt T.key (T.key x) xs.now at) }
     ensures some { 0 < result }
     ensures most { result ≤ length more.now }
-    ensures rises { IsStretch T.key first end (take result more.now) }
+    ensures items { all_placed T.key (take result more.now) xs.now ≡ take at xs.now ++ (take result more.now ++ drop at xs.now) }
 {
-    let mut least = u64::from(first) + 1;
+    let end = end_of_gap(xs, at);
+    let mut least = u64::from(more[0].key()) + 1;
     let mut count = 1;
     while count < more.len() {
         let number = u64::from(more[count].key());
@@ -127,6 +106,18 @@ fn stretch<T: Keyed>(more: &[T], first: u32, end: u64) -> usize
         count += 1;
     }
     count
+}
+
+/// The number of the entry at the index, or 2^32 where there is none.
+fn end_of_gap<T: Keyed>(xs: &[T], at: usize) -> u64
+    requires { IsStrictlySorted T.key xs.now }
+    ensures { AllByRecursion (λ y. result ≤ T.key y) (drop at xs.now) }
+{
+    if at < xs.len() {
+        u64::from(xs[at].key())
+    } else {
+        0x1_0000_0000
+    }
 }
 
 /// Puts the entries in at the index, in one shift. There is room for them.

@@ -5,7 +5,7 @@ use Rattle.lx_show.proofs.list.copy_in_room.Goals as goal
 pub loop-x-preserved : goal.loop-x-preserved
 loop-x-preserved g c = record {
   items = c.push_reserved.ensures.items ∙ (λ i. c.loop-x.invariant.items i ++ (c.in_ok-copied.ensures.value i ∷ []))
-      ∙ sym (one_more c.args.xs.now c.loop-x.x-index c.x-item.result c.loop-x-test.true c.x-item.is);
+      ∙ sym (one_more _ _ _ c.loop-x-test.true c.x-item.is);
   room = c.push_reserved.ensures.capacity ∙ c.loop-x.invariant.room;
   count = c.in_ok-copied.ensures.cause.kept ∙ c.loop-x.invariant.count;
 }

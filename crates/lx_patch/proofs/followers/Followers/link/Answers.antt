@@ -6,16 +6,15 @@ pub loop-e-preserved-then-levels-e-gt0 : goal.loop-e-preserved-then-levels-e-gt0
 loop-e-preserved-then-levels-e-gt0 c =
     let e = c.loop-e.e - 1 in
     let k = get_or c.args.places.now e 0 in
-    let first = c.loop-e.self.first.items in
+    let chained = c.loop-e.invariant.chained in
     let within : k < CHANNELS = c.requires.reach e (omega (arith, c.loop-e-test.true, c.loop-e.invariant.within)) in
     record {
       within = omega (arith, c.loop-e.invariant.within);
       top = c.loop-e.invariant.top;
       top_most = c.loop-e.invariant.top_most;
-      chained = chained_lit c.args.places.now c.args.levels.now first c.loop-e.self.next.items c.loop-e.e e k c.index.result.now
-          c.loop-e.invariant.chained (omega (arith, c.loop-e-test.true)) c.loop-e.invariant.within refl within
+      chained = chained_lit chained (omega (arith, c.loop-e-test.true)) k c.index.result.now c.loop-e.invariant.within refl within
           (omega (arith, c.if-levels-e-gt0.true))
-          (get_or_read first k c.index.result.now (omega (arith, within, c.loop-e.invariant.chained.first_reach)) c.index.ensures 0);
+          (get_or_read c.loop-e.self.first.items k c.index.result.now (omega (arith, within, chained.first_reach)) c.index.ensures 0);
     }
 
 pub loop-e-preserved : goal.loop-e-preserved
@@ -23,6 +22,5 @@ loop-e-preserved c = record {
   within = omega (arith, c.loop-e.invariant.within);
   top = c.loop-e.invariant.top;
   top_most = c.loop-e.invariant.top_most;
-  chained = chained_dark c.args.places.now c.args.levels.now c.loop-e.self.first.items c.loop-e.self.next.items c.loop-e.e (c.loop-e.e - 1)
-      c.loop-e.invariant.chained (omega (arith, c.loop-e-test.true)) (omega (arith, c.if-levels-e-gt0.false));
+  chained = chained_dark c.loop-e.invariant.chained (omega (arith, c.loop-e-test.true)) (omega (arith, c.if-levels-e-gt0.false));
 }

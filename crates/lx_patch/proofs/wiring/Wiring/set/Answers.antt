@@ -3,6 +3,5 @@ use Rattle.lx_patch.proofs.Rows.{stands_placed}
 use Rattle.lx_patch.proofs.wiring.Wiring.set.Goals as goal
 
 pub returns : goal.returns
-returns c = λ rows stands. stands_placed rows c.args.row c.self.inside.places.items c.self.inside.levels.items c.get.result c.get-2.result
-    (subst (StandsForPatch rows) (sym c.self.view_is) stands) c.get.ensures.value c.get-2.ensures.value c.get.ensures.least
-    c.get.ensures.most
+returns c = λ rows stands. stands_placed rows c.args.row (subst (StandsForPatch rows) (sym c.self.view_is) stands) c.get.ensures.value
+    c.get-2.ensures.value c.get.ensures.least c.get.ensures.most

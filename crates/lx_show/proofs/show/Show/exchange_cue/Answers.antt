@@ -1,14 +1,19 @@
-use Rattle.lx_show.proofs.StoredShows.{stored_cue, room_for_cue}
+use Rattle.lx_show.proofs.Imports.{◌≤◌, ap, arith, length, CUES, ValidCue}
+use Rattle.lx_show.proofs.StoredShows.{All-exchanged, few_exchanged, room_for_cue}
 use Rattle.lx_show.proofs.show.Show.exchange_cue.Goals as goal
 
 pub exchange_in_room-requires-clause-room : goal.exchange_in_room-requires-clause-room
 exchange_in_room-requires-clause-room c =
-    room_for_cue _ _ c.args.n c.args.to _ _ _ _ c.self.invariant c.self.view_is c.requires.number c.requires.room
+    room_for_cue _ c.args.to c.self.invariant.valid c.self.invariant.cue_room c.self.view_is c.requires.number c.requires.room
 
 pub invariant_of-self : goal.invariant_of-self
-invariant_of-self c = stored_cue _ _ c.args.n _ c.args.to _ _ _ _ _ _ c.self.invariant c.self.view_is c.exchange_in_room.ensures.capacity
-    c.requires.number c.requires.valid c.requires.room c.exchange_in_room.ensures.items c.exchange_in_room.ensures.sorted
+invariant_of-self c =
+    let all = All-exchanged ValidCue _ _ _ c.args.to c.self.view_is c.requires.valid c.exchange_in_room.ensures.items c.self.invariant.valid.cues in
+    let few : length c.exchange_in_room.new.xs.items ≤ CUES = omega (
+      arith,
+      ap length c.exchange_in_room.ensures.items,
+      few_exchanged c.args.n c.get.result c.args.to c.self.invariant.valid c.self.view_is c.requires.number c.requires.room,
+    ) in search arith
 
 pub returns-clause-after : goal.returns-clause-after
-returns-clause-after c = (stored_cue _ _ c.args.n _ c.args.to _ _ _ _ _ _ c.self.invariant c.self.view_is c.exchange_in_room.ensures.capacity
-    c.requires.number c.requires.valid c.requires.room c.exchange_in_room.ensures.items c.exchange_in_room.ensures.sorted).valid
+returns-clause-after c = (invariant_of-self c).valid

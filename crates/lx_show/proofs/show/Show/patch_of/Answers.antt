@@ -1,10 +1,7 @@
-use Rattle.lx_show.proofs.Imports.{◌∙◌, subst, ap, ◌==◌, List, find, AllByRecursion, Show, ValidPatchRow, PatchRow, found_has}
+use Rattle.lx_show.proofs.Imports.{◌∙◌, subst, sym, AllByRecursion, Show, ValidPatchRow, IfSome, found_has}
 use Rattle.lx_show.proofs.show.Show.patch_of.Goals as goal
 
 pub returns-clause-valid : goal.returns-clause-valid
-returns-clause-valid c =
-    let all : AllByRecursion (ValidPatchRow c.args.self.now.channels) c.args.self.now.patch =
-    subst (λ (s : Show). AllByRecursion (ValidPatchRow s.channels) s.patch) c.self.view_is c.self.invariant.valid.patch in
-    found_has (ValidPatchRow c.args.self.now.channels) (λ x. x.dimmer == c.get.result) c.args.self.now.patch c.copied.result
-    (c.copied.ensures ∙ c.entry_of.ensures ∙ ap (λ (xs : List PatchRow). find (λ x. x.dimmer == c.get.result) xs)
-    (c.as_slice.ensures.value ∙ ap (λ (s : Show). s.patch) c.self.view_is)) all
+returns-clause-valid c = subst (λ (s : Show). IfSome c.copied.result (ValidPatchRow s.channels)) c.self.view_is
+    (found_has _ _ _ c.copied.result (c.copied.ensures ∙ c.entry_of.ensures)
+    (subst (AllByRecursion (ValidPatchRow c.self.inside.channels)) (sym c.as_slice.ensures.value) c.self.invariant.valid.patch))
