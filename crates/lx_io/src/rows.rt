@@ -1,7 +1,6 @@
 //! Vectors that are filled as they are made.
 
-ghost use Rattle.std.specs.Prelude.{◌≡◌, length, replicate, IfOk};
-ghost use Rattle.lx_io.specs.Causes.{HasCause};
+ghost use Rattle.lx_io.specs.Imports.{◌≡◌, length, replicate, IfOk, HasCause};
 
 use crate::Heap;
 use std::alloc::AllocError;
