@@ -1,6 +1,7 @@
 //! Vectors that are filled as they are made.
 
-ghost use Rattle.lx_io.specs.Imports.{◌≡◌, length, replicate, IfOk, HasCause};
+ghost use Rattle.std.specs.Prelude.{◌≡◌, length, replicate, IfOk};
+ghost use Rattle.lx_io.specs.Causes.{HasCause};
 
 use crate::Heap;
 use std::alloc::AllocError;

@@ -1,7 +1,8 @@
 //! Tokens that are numbers of a desk's channels, dimmers, parts, groups and submasters.
 
-ghost use Rattle.lx_lex.specs.Imports.{◌≡◌, read_whole};
+ghost use Rattle.std.specs.Prelude.{◌≡◌};
 ghost use Rattle.lx_base.specs.declared.TheConstants.{CHANNELS, DIMMERS, GROUPS, PARTS, SUBS};
+ghost use Rattle.lx_spec.specs.Numerals.{read_whole};
 
 use crate::read::read_whole;
 use lx_base::{CHANNELS, Chan, DIMMERS, Dimmer, GROUPS, GroupNo, PARTS, PartNo, SUBS, SubNo};

@@ -1,5 +1,6 @@
 //! Where the next LF stands.
-ghost use Rattle.lx_lex.specs.Imports.{◌≡◌, ◌<◌, ◌≤◌, ◌+◌, length, Nowhere, Passes, is_byte};
+ghost use Rattle.std.specs.Prelude.{◌≡◌, ◌<◌, ◌≤◌, ◌+◌, length};
+ghost use Rattle.memchr.specs.Find.{Nowhere, Passes, is_byte};
 
 use std::simd::prelude::*;
 

@@ -1,6 +1,7 @@
 //! Hexadecimal digits.
 
-ghost use Rattle.lx_lex.specs.Imports.{◌≡◌, hex_value};
+ghost use Rattle.std.specs.Prelude.{◌≡◌};
+ghost use Rattle.lx_spec.specs.Numerals.{hex_value};
 
 /// The value of each byte that is a hexadecimal digit, and 16 for each other one.
 static VALUES: [u8; 256] = [

@@ -1,7 +1,9 @@
 //! The end of a line's tokens.
 #![tactic(auto, unfolding(crate::specs::Left::left))]
 
-ghost use Rattle.lx_lex.specs.Imports.{[], IfSome, tokens, FirstIsNumber};
+ghost use Rattle.std.specs.Prelude.{[], IfSome};
+ghost use Rattle.lx_spec.specs.Text.{tokens};
+ghost use Rattle.lx_lex.specs.PlainNumber.{FirstIsNumber};
 
 use crate::digits::{TOO_GREAT, whole};
 use crate::token::Tokens;

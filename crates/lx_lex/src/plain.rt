@@ -1,8 +1,9 @@
 //! Numbers of digits alone, read in one pass over their bytes.
 #![tactic(auto, using(crate::proofs::PlainNumbers::number_first))]
 
-ghost use Rattle.lx_lex.specs.Imports.{◌≡◌, ◌<◌, ◌≤◌, ◌+◌, ◌*◌, true, length, IfSome, List, ℕ, is_separator, after_all, tokens};
-ghost use Rattle.lx_lex.specs.Imports.{BeginsWithDigits, EndsToken, FirstIsLevel, FirstIsNumber};
+ghost use Rattle.std.specs.Prelude.{◌≡◌, ◌<◌, ◌≤◌, ◌+◌, ◌*◌, true, length, IfSome, List, ℕ};
+ghost use Rattle.lx_spec.specs.Text.{is_separator, after_all, tokens};
+ghost use Rattle.lx_lex.specs.PlainNumber.{BeginsWithDigits, EndsToken, FirstIsLevel, FirstIsNumber};
 
 use crate::digits::digit;
 use crate::hex::hex_value;

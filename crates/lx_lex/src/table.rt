@@ -1,6 +1,7 @@
 //! Words looked up in a table.
 
-ghost use Rattle.lx_lex.specs.Imports.{◌≡◌, in_capitals, looked_up};
+ghost use Rattle.std.specs.Prelude.{◌≡◌};
+ghost use Rattle.lx_lex.specs.WordTable.{in_capitals, looked_up};
 
 use crate::word::word_is;
 

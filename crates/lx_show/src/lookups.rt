@@ -1,8 +1,10 @@
 //! What a show has: each look-up finds its number by halving.
 
-ghost use Rattle.lx_show.specs.Imports.{◌≡◌, IfSome, find, reverse, option_copied, entry_at, Valid, ValidCue, ValidGroup, ValidSub};
-ghost use Rattle.lx_show.specs.Imports.{ValidPatchRow, cue_of, decides, move_of, tracked, deciding_cue, cue_above, cue_below, next_cue};
-ghost use Rattle.lx_show.specs.Imports.{cue_before};
+ghost use Rattle.std.specs.Prelude.{◌≡◌, IfSome, find, reverse};
+ghost use Rattle.std.specs.Option.{option_copied};
+ghost use Rattle.lx_spec.specs.SortedList.{entry_at};
+ghost use Rattle.lx_spec.specs.Show.{Valid, ValidCue, ValidGroup, ValidSub, ValidPatchRow};
+ghost use Rattle.lx_spec.specs.TrackedLevel.{cue_of, decides, move_of, tracked, deciding_cue, cue_above, cue_below, next_cue, cue_before};
 
 use crate::cue::Cue;
 use crate::members::{Group, Sub};

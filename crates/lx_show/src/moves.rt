@@ -1,6 +1,7 @@
 //! The moves of a cue, and what becomes of them where a part is taken out.
 
-ghost use Rattle.lx_show.specs.Imports.{◌≡◌, map, out_of_part};
+ghost use Rattle.std.specs.Prelude.{◌≡◌, map};
+ghost use Rattle.lx_spec.specs.EditedShow.{out_of_part};
 
 use crate::list::SortedList;
 use crate::sorted::Keyed;
