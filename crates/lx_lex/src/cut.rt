@@ -1,8 +1,7 @@
 //! A line cut into its tokens, and its rest after some of them.
 
 ghost use Rattle.std.specs.Prelude.{◌≡◌, ◌≤◌};
-ghost use Rattle.lx_spec.specs.Text.{tokens, rest_after};
-ghost use Rattle.lx_lex.specs.Left.{left};
+ghost use Rattle.lx_lex.specs.Imports.{tokens, rest_after, left};
 
 use crate::scan::{first_token, past_blanks, past_separator};
 use crate::token::Tokens;

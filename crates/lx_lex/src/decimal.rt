@@ -1,9 +1,7 @@
 //! Numbers with decimals, in parts of a unit.
 
 ghost use Rattle.std.specs.Prelude.{◌≡◌, ◌+◌, ◌*◌, ◌/◌, ◌^◌, ◌<◌, ◌≤◌, true, false, ◌&&◌, length, MatchOption};
-ghost use Rattle.std.specs.List.{list_all};
-ghost use Rattle.lx_spec.specs.Numerals.{is_digit, is_decimal, number_of, whole_part, decimals};
-ghost use Rattle.lx_lex.specs.Decimals.{IsPowerOfTen, IsDecimal};
+ghost use Rattle.lx_lex.specs.Imports.{list_all, is_digit, is_decimal, number_of, whole_part, decimals, IsPowerOfTen, IsDecimal};
 
 use crate::digits::{TOO_GREAT, cut_at, digit, number};
 

@@ -1,8 +1,7 @@
 //! Decimal digits, and a text cut at a mark.
 
 ghost use Rattle.std.specs.Prelude.{◌≡◌, ◌-◌, ◌==◌, ◌≤◌, true, false, min, MatchOption};
-ghost use Rattle.std.specs.List.{list_all, list_any, before_first, after_first, position};
-ghost use Rattle.lx_spec.specs.Numerals.{is_digit, is_number, number_of};
+ghost use Rattle.lx_lex.specs.Imports.{list_all, list_any, before_first, after_first, position, is_digit, is_number, number_of};
 
 /// Numbers from here on aren't told apart: each is above every limit.
 pub(crate) const TOO_GREAT: u64 = 0x1_0000_0000;

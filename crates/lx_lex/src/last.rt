@@ -2,8 +2,7 @@
 #![tactic(auto, unfolding(crate::specs::Left::left))]
 
 ghost use Rattle.std.specs.Prelude.{[], IfSome};
-ghost use Rattle.lx_spec.specs.Text.{tokens};
-ghost use Rattle.lx_lex.specs.PlainNumber.{FirstIsNumber};
+ghost use Rattle.lx_lex.specs.Imports.{tokens, FirstIsNumber};
 
 use crate::digits::{TOO_GREAT, whole};
 use crate::token::Tokens;

@@ -2,8 +2,7 @@
 #![tactic(auto, using(crate::proofs::PlainNumbers::number_first))]
 
 ghost use Rattle.std.specs.Prelude.{◌≡◌, ◌<◌, ◌≤◌, ◌+◌, ◌*◌, true, length, IfSome, List, ℕ};
-ghost use Rattle.lx_spec.specs.Text.{is_separator, after_all, tokens};
-ghost use Rattle.lx_lex.specs.PlainNumber.{BeginsWithDigits, EndsToken, FirstIsLevel, FirstIsNumber};
+ghost use Rattle.lx_lex.specs.Imports.{is_separator, after_all, tokens, BeginsWithDigits, EndsToken, FirstIsLevel, FirstIsNumber};
 
 use crate::digits::digit;
 use crate::hex::hex_value;

@@ -3,9 +3,7 @@
 #![tactic(auto, using(lx_io::proofs::Chain::puts))]
 
 ghost use Rattle.std.specs.Prelude.{◌≡◌, ◌<◌, ◌≤◌, ◌++◌, ◌∷◌, [], ◌+◌, decimal, length, take};
-ghost use Rattle.lx_io.specs.Puts.{Puts};
-ghost use Rattle.lx_spec.specs.Numerals.{decimal_text, time_text, hex_digit, level_text};
-ghost use Rattle.lx_lex.specs.Texts.{behind_text, decimals_text};
+ghost use Rattle.lx_lex.specs.Imports.{Puts, decimal_text, time_text, hex_digit, level_text, behind_text, decimals_text};
 ghost use Rattle.lx_lex.specs.declared.put.TheConstants.{START_BYTES};
 
 use itoa::write_digits;

@@ -4,9 +4,8 @@
 //! zeros are allowed, and a number may have any number of digits.
 
 ghost use Rattle.std.specs.Prelude.{◌≡◌, ◌≤◌, ◌<◌, ◌^◌};
-ghost use Rattle.lx_spec.specs.Limits.{desk_limits};
-ghost use Rattle.lx_spec.specs.Numerals.{hex_value, ranged, read_cue_no, read_hex, read_level, read_minutes, read_seconds, read_time};
-ghost use Rattle.lx_spec.specs.Numerals.{read_whole};
+ghost use Rattle.lx_lex.specs.Imports.{desk_limits, hex_value, ranged, read_cue_no, read_hex, read_level, read_minutes, read_seconds};
+ghost use Rattle.lx_lex.specs.Imports.{read_time, read_whole};
 
 use crate::decimal::Decimal;
 use crate::digits::{cut_at, whole};

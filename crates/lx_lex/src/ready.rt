@@ -1,8 +1,7 @@
 //! Channels' numbers as ready texts: written from a table, and known again by it where one is guessed.
 
 ghost use Rattle.std.specs.Prelude.{◌≡◌, ◌≤◌, IfSome, decimal, length, take};
-ghost use Rattle.lx_spec.specs.Text.{tokens};
-ghost use Rattle.lx_lex.specs.PlainNumber.{FirstIsNumber};
+ghost use Rattle.lx_lex.specs.Imports.{tokens, FirstIsNumber};
 
 use crate::names::NUMBERS;
 use crate::plain::past_byte;

@@ -1,8 +1,7 @@
 //! Words of a line.
 
 ghost use Rattle.std.specs.Prelude.{◌≡◌, false};
-ghost use Rattle.std.specs.Str.{str_to_ascii_uppercase};
-ghost use Rattle.lx_spec.specs.Text.{is_word};
+ghost use Rattle.lx_lex.specs.Imports.{str_to_ascii_uppercase, is_word};
 
 /// Whether a token is a word, whatever the case of the ASCII letters of both.
 #[inline(always)]

@@ -1,8 +1,7 @@
 //! The parts of a sorted list that stand below, up to and above a number, each found by halving.
 
 ghost use Rattle.std.specs.Prelude.{◌≡◌};
-ghost use Rattle.lx_spec.specs.SortedList.{IsStrictlySorted, entries_below, entries_above};
-ghost use Rattle.lx_show.specs.Around.{entries_up_to};
+ghost use Rattle.lx_show.specs.Imports.{IsStrictlySorted, entries_below, entries_above, entries_up_to};
 
 use crate::sorted::{Keyed, index_of};
 

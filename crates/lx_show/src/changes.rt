@@ -1,12 +1,7 @@
 //! Changes to a cue where it stands in a show, without a copy.
 
 ghost use Rattle.std.specs.Prelude.{◌≡◌, IsTrue, Some};
-ghost use Rattle.std.specs.Option.{IsSomeAnd};
-ghost use Rattle.std.specs.List.{AllByRecursion};
-ghost use Rattle.lx_spec.specs.SortedList.{has_entry, placed};
-ghost use Rattle.lx_spec.specs.Show.{Valid, ValidMove};
-ghost use Rattle.lx_spec.specs.TrackedLevel.{cue_of, move_in};
-ghost use Rattle.lx_show.specs.ChangedEntry.{changed};
+ghost use Rattle.lx_show.specs.Imports.{IsSomeAnd, AllByRecursion, has_entry, placed, Valid, ValidMove, cue_of, move_in, changed};
 
 use crate::moves::MoveList;
 use crate::show::Show;

@@ -1,8 +1,7 @@
 //! What the types of a show's plain data keep, as facts. These calls do nothing, and stand for proofs alone:
 //! a proof about a value that was handed in begins with the facts of its type.
 
-ghost use Rattle.std.specs.List.{AllByRecursion};
-ghost use Rattle.lx_spec.specs.Show.{InRange, IsLabel, IsLevel};
+ghost use Rattle.lx_show.specs.Imports.{AllByRecursion, InRange, IsLabel, IsLevel};
 
 use lx_base::CHANNELS;
 use lx_spec::{Label, Member, Move};

@@ -1,10 +1,8 @@
 //! What a show has: each look-up finds its number by halving.
 
 ghost use Rattle.std.specs.Prelude.{◌≡◌, IfSome, find, reverse};
-ghost use Rattle.std.specs.Option.{option_copied};
-ghost use Rattle.lx_spec.specs.SortedList.{entry_at};
-ghost use Rattle.lx_spec.specs.Show.{Valid, ValidCue, ValidGroup, ValidSub, ValidPatchRow};
-ghost use Rattle.lx_spec.specs.TrackedLevel.{cue_of, decides, move_of, tracked, deciding_cue, cue_above, cue_below, next_cue, cue_before};
+ghost use Rattle.lx_show.specs.Imports.{option_copied, entry_at, Valid, ValidCue, ValidGroup, ValidSub, ValidPatchRow, cue_of, decides};
+ghost use Rattle.lx_show.specs.Imports.{move_of, tracked, deciding_cue, cue_above, cue_below, next_cue, cue_before};
 
 use crate::cue::Cue;
 use crate::members::{Group, Sub};

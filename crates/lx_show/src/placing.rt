@@ -2,10 +2,8 @@
 //! memory, since a show has room for all numbers.
 
 ghost use Rattle.std.specs.Prelude.{◌≡◌, ◌≤◌, ◌||◌, IsTrue, IfSome, length, nat_lt};
-ghost use Rattle.lx_spec.specs.SortedList.{entry_at, has_entry, placed, taken_out};
-ghost use Rattle.lx_spec.specs.Show.{Valid, ValidCue, ValidGroup, ValidPatchRow, ValidSub};
-ghost use Rattle.lx_spec.specs.TrackedLevel.{cue_of};
-ghost use Rattle.lx_show.specs.ChangedEntry.{exchanged_at};
+ghost use Rattle.lx_show.specs.Imports.{entry_at, has_entry, placed, taken_out, Valid, ValidCue, ValidGroup, ValidPatchRow, ValidSub};
+ghost use Rattle.lx_show.specs.Imports.{cue_of, exchanged_at};
 
 use crate::cue::Cue;
 use crate::members::{Group, Sub};

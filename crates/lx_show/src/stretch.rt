@@ -2,10 +2,7 @@
 //! neighbours are put there in one shift.
 
 ghost use Rattle.std.specs.Prelude.{◌≡◌, ◌<◌, ◌≤◌, ◌+◌, ◌-◌, ◌++◌, IfSome, length, take, drop, slice_get, vec_capacity, OnOk, OnErr};
-ghost use Rattle.std.specs.List.{AllByRecursion};
-ghost use Rattle.lx_io.specs.Causes.{HasCause};
-ghost use Rattle.lx_spec.specs.SortedList.{IsStrictlySorted, all_placed};
-ghost use Rattle.lx_show.specs.Indexes.{GoesAt};
+ghost use Rattle.lx_show.specs.Imports.{AllByRecursion, HasCause, IsStrictlySorted, all_placed, GoesAt};
 
 use crate::sorted::{Keyed, index_near, stands_at};
 use lx_io::Heap;
