@@ -4,7 +4,7 @@ use Rattle.lx_lex.proofs.Imports.{length, map, take, drop, decimal, arith, cond,
 use Rattle.lx_lex.proofs.Imports.{range_with_len, starts_with, cases_Bool, cases_lt, Decides-eqb, nat_tests, decimal_digit, length-drop, take_all}
 use Rattle.lx_lex.proofs.Imports.{get_or-map-range_with_len, starts_is, pair, decimal_two, decimal_pair, is_separator, begins_comment}
 use Rattle.lx_lex.proofs.Imports.{tokens, lt_true, lt_false, EndsToken, FirstIsNumber}
-use Rattle.lx_lex.specs.declared.names.TheConstants.{NUMBERS}
+use Rattle.lx_lex.specs.declared.names.TheConstants.{NUMBERS, DIGITS}
 use Rattle.lx_lex.proofs.LineCuts.{tokens_by-separator}
 use Rattle.lx_lex.proofs.PlainNumbers.{number_first}
 use Rattle.lx_lex.proofs.Separators.{apart}
@@ -22,12 +22,22 @@ numbers_are = refl
 number_row : (n : ℕ) (d : List ℕ) → n < 4097 → get_or NUMBERS n d ≡ ready n
 number_row n d lt = ap (λ rows. get_or rows n d) numbers_are ∙ get_or-map-range_with_len ready 0 4100 n n d (omega (arith, lt)) (omega arith)
 
-begins_with : (n : ℕ) → n < 4097 → take (length (decimal n)) (ready n) ≡ decimal n
-begins_with n lt =
+-- how many digits it has
+abbrev digits : ℕ → ℕ
+digits n = cond (nat_lt n 10) 1 (cond (nat_lt n 100) 2 (cond (nat_lt n 1000) 3 4))
+
+digits_are : DIGITS ≡ map digits (range_with_len 0 4100)
+digits_are = refl
+
+abbrev IsReady : ℕ → List ℕ → ℕ → Type 0
+IsReady n row count = (count ≡ length (decimal n)) × ((count ≤ 4) × (take (length (decimal n)) row ≡ decimal n))
+
+ready_is : (n : ℕ) → n < 4097 → IsReady n (ready n) (digits n)
+ready_is n lt =
     elim (cases_lt n 10) [
-      | inl low ↦ rw (lt_true n 10 low, decimal_digit n low) refl
+      | inl low ↦ rw (lt_true n 10 low, decimal_digit n low) (refl, (omega arith, refl))
       | inr from ↦ elim (cases_lt n 100) [
-        | inl low ↦ rw (lt_false n 10 from, lt_true n 100 low, decimal_two n from low) refl
+        | inl low ↦ rw (lt_false n 10 from, lt_true n 100 low, decimal_two n from low) (refl, (omega arith, refl))
         | inr more ↦ elim (cases_lt n 1000) [
           | inl low ↦
               rw (
@@ -37,7 +47,7 @@ begins_with n lt =
                 decimal_pair n more (omega arith),
                 decimal_digit (n / 100) (omega arith),
               )
-              refl
+              (refl, (omega arith, refl))
           | inr most ↦
               rw (
                 lt_false n 10 from,
@@ -46,13 +56,17 @@ begins_with n lt =
                 decimal_pair n more (omega arith),
                 decimal_two (n / 100) (omega arith) (omega arith),
               )
-              refl
+              (refl, (omega arith, refl))
         ]
       ]
     ]
 
-pub number_of_row : (n : ℕ) (d : List ℕ) → n < 4097 → take (length (decimal n)) (get_or NUMBERS n d) ≡ decimal n
-number_of_row n d lt = rw (number_row n d lt) (begins_with n lt)
+-- the rows of the two tables
+pub rows_are : (n : ℕ) (d : List ℕ) (e : ℕ) → n < 4097 → IsReady n (get_or NUMBERS n d) (get_or DIGITS n e)
+rows_are n d e lt =
+    let count : get_or DIGITS n e ≡ digits n
+    = ap (λ rows. get_or rows n e) digits_are ∙ get_or-map-range_with_len digits 0 4100 n n e (omega (arith, lt)) (omega arith) in
+    rw (number_row n d lt, count) (ready_is n lt)
 
 -- a line that begins with the row of a number of three digits or more
 begins_row : {n : ℕ} (d line : List ℕ) → 100 ≤ n → n < 4097 → starts_with eqb line (get_or NUMBERS n d) ≡ true

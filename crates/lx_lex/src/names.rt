@@ -46,11 +46,28 @@ macro_rules! row {
     ($behind:literal [$a:literal $b:literal $c:literal $d:literal]) => { [$a, $b, $c, $d] };
 }
 
-/// A channel's number at the front of four bytes, and `@` behind it where there is room. The last three are of no channel.
-pub(crate) static NUMBERS: [[u8; 4]; 4100] = numbers! { row b'@':
-    [b'1'] [b'2'] [b'3'] [b'4'] [b'5'] [b'6'] [b'7'] [b'8'] [b'9']
-    [b'1' b'0'] [b'1' b'1'] [b'1' b'2'] [b'1' b'3'] [b'1' b'4'] [b'1' b'5'] [b'1' b'6'] [b'1' b'7'] [b'1' b'8'] [b'1' b'9']
-    [b'2' b'0'] [b'2' b'1'] [b'2' b'2'] [b'2' b'3'] [b'2' b'4'] [b'2' b'5'] [b'2' b'6'] [b'2' b'7'] [b'2' b'8'] [b'2' b'9']
-    [b'3' b'0'] [b'3' b'1'] [b'3' b'2'] [b'3' b'3'] [b'3' b'4'] [b'3' b'5'] [b'3' b'6'] [b'3' b'7'] [b'3' b'8'] [b'3' b'9']
-    [b'4' b'0']
-};
+/// How many digits a number has.
+macro_rules! digits {
+    (() [$a:literal]) => { 1 };
+    (() [$a:literal $b:literal]) => { 2 };
+    (() [$a:literal $b:literal $c:literal]) => { 3 };
+    (() [$a:literal $b:literal $c:literal $d:literal]) => { 4 };
+}
+
+/// A table with a row for each channel's number, and for three that are of no channel.
+macro_rules! channels {
+    ($row:ident $with:tt) => {
+        numbers! { $row $with:
+            [b'1'] [b'2'] [b'3'] [b'4'] [b'5'] [b'6'] [b'7'] [b'8'] [b'9'] [b'1' b'0'] [b'1' b'1'] [b'1' b'2'] [b'1' b'3'] [b'1' b'4']
+            [b'1' b'5'] [b'1' b'6'] [b'1' b'7'] [b'1' b'8'] [b'1' b'9'] [b'2' b'0'] [b'2' b'1'] [b'2' b'2'] [b'2' b'3'] [b'2' b'4']
+            [b'2' b'5'] [b'2' b'6'] [b'2' b'7'] [b'2' b'8'] [b'2' b'9'] [b'3' b'0'] [b'3' b'1'] [b'3' b'2'] [b'3' b'3'] [b'3' b'4']
+            [b'3' b'5'] [b'3' b'6'] [b'3' b'7'] [b'3' b'8'] [b'3' b'9'] [b'4' b'0']
+        }
+    };
+}
+
+/// A channel's number at the front of four bytes, and `@` behind it where there is room.
+pub(crate) static NUMBERS: [[u8; 4]; 4100] = channels! { row b'@' };
+
+/// How many digits a channel's number has.
+pub(crate) static DIGITS: [u8; 4100] = channels! { digits () };

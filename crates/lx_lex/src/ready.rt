@@ -3,7 +3,7 @@
 ghost use Rattle.std.specs.Prelude.{◌≡◌, ◌≤◌, IfSome, decimal, length, take};
 ghost use Rattle.lx_lex.specs.Imports.{tokens, FirstIsNumber};
 
-use crate::names::NUMBERS;
+use crate::names::{DIGITS, NUMBERS};
 use crate::plain::past_byte;
 use lx_base::Chan;
 
@@ -21,12 +21,7 @@ pub fn ready_digits(chan: Chan) -> usize
     ensures few { result ≤ 4 }
     ensures digits { result ≡ length (decimal chan) }
 {
-    match chan.get() {
-        0..=9 => 1,
-        10..=99 => 2,
-        100..=999 => 3,
-        _ => 4,
-    }
+    DIGITS[chan.get() as usize] as usize
 }
 
 /// What follows the channel's number and `@` behind it, where both stand at the front of the line. None where they don't, and for a
