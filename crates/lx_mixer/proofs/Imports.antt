@@ -6,7 +6,7 @@ pub use Rattle.lx_base.specs.Numbers.{scaled}
 pub use Rattle.lx_base.specs.Rows.{HasLanes}
 pub use Rattle.lx_mixer.specs.Mix.{HasWords, IsMixed}
 pub use Rattle.std.proofs.Math.ListN.{get_or-map, length-set}
-pub use Rattle.std.proofs.lemmas.Bool.{cases_lt, cases_order, cond-false, cond-true}
+pub use Rattle.std.proofs.lemmas.Bool.{cases_eq, cases_lt, cond-false, cond-true}
 pub use Rattle.std.proofs.lemmas.List.{get_or-append_right, get_or_append_left, length-map}
 pub use Rattle.std.proofs.lemmas.Simd.{Each1-from_get_or, Each1-get_or, Each1-zip2, Each2-splat, get_or-replicate, get_or-sel_l, get_or-zip2, get_or_narrower}
 pub use Rattle.std.proofs.lemmas.Simd.{length-sel_l, length-zip2, tops_compared}

@@ -1,6 +1,6 @@
 -- Tables: what they tell, one value of them changed, and a mix of two.
 use Rattle.lx_mixer.proofs.Imports.{◌≡◌, ℕ, ◌+◌, ◌-◌, ◌≤◌, max, List, length, EachIndex, arith, get_or, set, get_or-set_other, ◌∙◌}
-use Rattle.lx_mixer.proofs.Imports.{ap, sym, inl, inr, length-set, cases_order, scaled}
+use Rattle.lx_mixer.proofs.Imports.{ap, sym, inl, inr, length-set, cases_eq, scaled}
 use Rattle.std.proofs.lemmas.Grind.{get_or-set_at}
 use Rattle.lx_mixer.specs.Table.{IsTable}
 
@@ -21,10 +21,9 @@ pub table-set : (n e x : ℕ) (before after : ℕ → ℕ) (values : List ℕ) �
     → ((c : ℕ) → (c ≡ e → ⊥) → after c ≡ before c) → IsTable n after (set values (e - 1) x)
 table-set n e x before after values table least most here_is others = record {
   reach = length-set values (e - 1) x ∙ table.reach;
-  each = λ k within. elim (cases_order (k + 1) e) [
+  each = λ k within. elim (cases_eq (k + 1) e) [
     | inl here ↦ get_or-set_at values (e - 1) k x 0 (omega arith) (omega (arith, table.reach)) ∙ sym here_is ∙ ap after (sym here)
-    | inr apart ↦
-        let other : k + 1 ≡ e → ⊥ = λ same. elim apart [ inl low ↦ omega arith | inr high ↦ omega arith ] in
+    | inr other ↦
         get_or-set_other values (e - 1) k x 0 (λ same. other (omega arith)) ∙ table.each k within ∙ sym (others (k + 1) other)
   ];
 }

@@ -1,7 +1,7 @@
 -- What the proofs of this crate import from its specs and from other crates. It declares nothing.
-pub use Rattle.std.proofs.Common.{[], ℕ, ◌%◌, ◌&&◌, ◌*◌, ◌+◌, ◌-◌, ◌<◌, ◌==◌, ◌^◌, ◌∙◌, ◌∷◌, ◌≡◌, ◌≢◌}
-pub use Rattle.std.proofs.Common.{◌≤◌, ◌⊎◌, ap, arith, Bool, cond, drop, drop-cons, eqb, eqb-true, false, find, get_or, get_or-set_other, inl, inr}
-pub use Rattle.std.proofs.Common.{length, List, map, None, not, Option, refl, replicate, rules, set, slice_index, Some, subst, suc, sym, true, w16}
+pub use Rattle.std.proofs.Common.{ℕ, ◌%◌, ◌&&◌, ◌*◌, ◌+◌, ◌-◌, ◌<◌, ◌==◌, ◌^◌, ◌∙◌, ◌∷◌, ◌≡◌, ◌≢◌, ◌≤◌, ◌⊎◌, ap, arith, Bool, cond, drop}
+pub use Rattle.std.proofs.Common.{drop-cons, eqb, eqb-true, false, find, get_or, get_or-set_other, inl, inr, length, List, map, None, not}
+pub use Rattle.std.proofs.Common.{Option, refl, replicate, rules, set, slice_index, Some, subst, suc, sym, true, w16}
 pub use Rattle.lx_base.proofs.Lanes.{apart, loaded, stored_at, stored_below}
 pub use Rattle.lx_base.specs.Numbers.{scaled}
 pub use Rattle.lx_base.specs.Rows.{Agree, HasLanes}
@@ -15,10 +15,10 @@ pub use Rattle.lx_spec.specs.Output.{dimmer_value}
 pub use Rattle.lx_spec.specs.SortedList.{entry_at, placed, taken_out}
 pub use Rattle.lx_spec.specs.declared.PatchRow.{PatchRow}
 pub use Rattle.std.proofs.Math.ListN.{length-set}
-pub use Rattle.std.proofs.lemmas.Bool.{cases_eq, cases_lt, cases_order, not-false, not-true}
+pub use Rattle.std.proofs.lemmas.Bool.{cases_eq, cases_lt, not-false, not-true}
 pub use Rattle.std.proofs.lemmas.Grind.{get_or-set_at}
 pub use Rattle.std.proofs.lemmas.List.{get_or-replicate, get_or_read, length-replicate}
-pub use Rattle.std.proofs.lemmas.Simd.{get_or-chunk, get_or-put_chunk_above, get_or-zip2, leading_from_mask_l, length-chunk, length-zip2, mask_l-mod}
-pub use Rattle.std.proofs.lemmas.Simd.{tops_compared}
+pub use Rattle.std.proofs.lemmas.Simd.{get_or-chunk, get_or-put_chunk_above, get_or-zip2, leading_from_mask_l, length-chunk, length-zip2}
+pub use Rattle.std.proofs.lemmas.Simd.{mask_l-mod, tops_compared}
 pub use Rattle.std.specs.List.{AllByRecursion, range_with_len}
 pub use Rattle.std.specs.Option.{option_map_or}

@@ -54,26 +54,25 @@ module _ (places : List ℕ) (at first : ℕ) (room : at + 32 ≤ length places)
       eqb-true _ _ (not-false (eqb _ _) (sym (lane (k - at) within) ∙ not-true _ passes)) in
       ap (λ n. get_or places n 0) (sym back) ∙ same ∙ ap (λ n. n + (k - at)) (sym is)
 
+-- what was loaded at once
+lanes_of : (xs lanes : List ℕ) (from : ℕ) (f : ℕ → ℕ) → from + 32 ≤ length xs → lanes ≡ chunk from 32 xs
+    → ((k : ℕ) → k < 32 → get_or xs (from + k) 0 ≡ f k) → HasLanes lanes f
+lanes_of xs lanes from f room is each = record {
+  long = ap length is ∙ length-chunk from 32 xs room;
+  each = λ k less. ap (λ ys. get_or ys k 0) is ∙ get_or-chunk from 32 xs k 0 less ∙ each k less;
+}
+
 module _ (places outs lanes : List ℕ) (at : ℕ) where
   -- outputs that were loaded at once
   pub run_lanes : get_or places at 0 + 32 ≤ length outs → AreInARow places at (at + 32) → lanes ≡ chunk (get_or places at 0) 32 outs
       → HasLanes lanes (λ k. get_or outs (get_or places (at + k) 0) 0)
-  run_lanes room row is = record {
-    long = ap length is ∙ length-chunk (get_or places at 0) 32 outs room;
-    each = λ k less.
-        let steps : at + k - at ≡ k = omega arith in
-        ap (λ xs. get_or xs k 0) is ∙ get_or-chunk (get_or places at 0) 32 outs k 0 less
-        ∙ ap (λ n. get_or outs (get_or places at 0 + n) 0) (sym steps)
-        ∙ ap (λ n. get_or outs n 0) (sym (row (at + k) (omega arith) (omega arith)));
-  }
+  run_lanes room row is = lanes_of outs lanes (get_or places at 0) _ room is (λ k less.
+      let steps : at + k - at ≡ k = omega arith in
+      ap (λ n. get_or outs (get_or places at 0 + n) 0) (sym steps) ∙ ap (λ n. get_or outs n 0) (sym (row (at + k) (omega arith) (omega arith))))
 
   -- and one by one
   pub own_lanes : (gathered : List ℕ) → length gathered ≡ 32
       → ((k : ℕ) → k < 32 → get_or gathered k 0 ≡ get_or outs (get_or places (at + k) 0) 0) → lanes ≡ chunk 0 32 gathered
       → HasLanes lanes (λ k. get_or outs (get_or places (at + k) 0) 0)
-  own_lanes gathered whole lane is = record {
-    long = ap length is ∙ length-chunk 0 32 gathered (omega (arith, whole));
-    each = λ k less.
-        let start : 0 + k ≡ k = omega arith in
-        ap (λ xs. get_or xs k 0) is ∙ get_or-chunk 0 32 gathered k 0 less ∙ ap (λ n. get_or gathered n 0) start ∙ lane k less;
-  }
+  own_lanes gathered whole lane is = lanes_of gathered lanes 0 _ (omega (arith, whole)) is (λ k less.
+      let start : 0 + k ≡ k = omega arith in ap (λ n. get_or gathered n 0) start ∙ lane k less)

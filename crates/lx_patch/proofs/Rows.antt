@@ -1,7 +1,7 @@
 -- A table of the patch goes on standing for its rows, as they are placed and taken out.
 use Rattle.lx_patch.proofs.Imports.{◌≡◌, ℕ, ◌-◌, ◌<◌, ◌≤◌, Bool, true, false, not, ◌==◌, ◌&&◌, Option, None, Some, List, ◌∷◌}
 use Rattle.lx_patch.proofs.Imports.{find, option_map_or, arith, length, get_or, drop, drop-cons, set, replicate, suc, ◌∙◌, ap, sym, inl, inr}
-use Rattle.lx_patch.proofs.Imports.{length-replicate, get_or-replicate, cases_order, SLOTS, PatchRow, entry_at, placed, taken_out, table_of_same, table-set}
+use Rattle.lx_patch.proofs.Imports.{length-replicate, get_or-replicate, cases_eq, SLOTS, PatchRow, entry_at, placed, taken_out, table_of_same, table-set}
 use Rattle.lx_patch.proofs.Imports.{DimmerTable, IsWired, place_of, proportion_of, StandsForPatch}
 use Rattle.std.proofs.lemmas.Bool.Decides.{nat_tests}
 use Rattle.lx_spec.proofs.Comparisons.{and_known, eq_other, eq_true}
@@ -74,11 +74,9 @@ drop_before rows i row some within is =
 -- a row placed is found as one set before the others
 placed_first : (row : PatchRow) (rows : List PatchRow) (e : ℕ)
     → entry_at (λ x. x.dimmer) e (placed (λ x. x.dimmer) row rows) ≡ entry_at (λ x. x.dimmer) e (row ∷ rows)
-placed_first row rows e = elim (cases_order row.dimmer e) [
+placed_first row rows e = elim (cases_eq row.dimmer e) [
   | inl here ↦ rw (eq_true row.dimmer e here) (entry_at-placed_here (λ x. x.dimmer) e row rows here)
-  | inr apart ↦
-      let other : row.dimmer ≡ e → ⊥ = λ same. elim apart [ inl low ↦ omega arith | inr high ↦ omega arith ] in
-      rw (eq_other row.dimmer e other) (entry_at-placed_other (λ x. x.dimmer) e row rows other)
+  | inr other ↦ rw (eq_other row.dimmer e other) (entry_at-placed_other (λ x. x.dimmer) e row rows other)
 ]
 
 -- a table stands for all rows that are found alike

@@ -1,5 +1,5 @@
 -- Slots that follow outputs which changed, channel by channel.
-use Rattle.lx_patch.proofs.Imports.{◌≡◌, ◌⊎◌, ℕ, ◌+◌, ◌-◌, ◌<◌, ◌≤◌, Option, Some, None, List, length, option_map_or}
+use Rattle.lx_patch.proofs.Imports.{◌≡◌, ℕ, ◌+◌, ◌-◌, ◌<◌, ◌≤◌, Option, Some, None, List, length, option_map_or}
 use Rattle.lx_patch.proofs.Imports.{arith, get_or, refl, ◌∙◌, ap, sym, inl, inr, cases_lt, SLOTS, scaled, Agree, PatchRow, entry_at, dimmer_value}
 use Rattle.lx_patch.proofs.Imports.{IsTable, DimmerTable, StandsForPatch, ReachTable, AreDarkFrom, AreSlots, IsFollowed}
 
@@ -8,9 +8,6 @@ pub nothing : (x y : ℕ) → y ≡ 0 → scaled x y ≡ 0
 nothing x y dark = ap (scaled x) dark ∙ none where
   none : scaled x 0 ≡ 0
   none = grind arith
-
-some_or_none : (x : ℕ) → (x ≡ 0) ⊎ (0 < x)
-some_or_none x = elim (cases_lt 0 x) [ inl some ↦ inr some | inr none ↦ inl (omega arith) ]
 
 -- the value of a dimmer is the output at its place, in proportion to its level
 pub slot_value : (rows : List PatchRow) (table : DimmerTable) (outs : List ℕ) (e : ℕ) → StandsForPatch rows table → e < SLOTS

@@ -46,7 +46,7 @@ impl Followers {
         ensures { IsLinked places.now levels.now self.new }
     {
         self.top = top_of(levels);
-        clear(&mut self.first);
+        self.first.fill(SLOTS as u16);
         let mut e = SLOTS;
         while e > 0 {
             e -= 1;
@@ -81,17 +81,6 @@ impl Followers {
             slots[e] = scale(out, levels[e]);
             e = self.next[e] as usize;
         }
-    }
-}
-
-/// No channel has a first dimmer.
-fn clear(first: &mut Vec<u16>)
-    requires { length first.old.items ≡ CHANNELS }
-    ensures reach { length first.new.items ≡ CHANNELS }
-    ensures each { (k : ℕ) → k < CHANNELS → slice_index first.new.items k ≡ SLOTS }
-{
-    for k in 0..first.len() {
-        first[k] = SLOTS as u16;
     }
 }
 

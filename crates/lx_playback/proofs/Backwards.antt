@@ -3,6 +3,7 @@ use Rattle.lx_playback.proofs.Imports.{◌≡◌, ℕ, ◌-◌, ◌<◌, ◌≤�
 use Rattle.lx_playback.proofs.Imports.{get_or, subst, ap, sym, ◌∙◌, Run, NewestFirst, OldestFirst, ValidRun}
 use Rattle.std.proofs.lemmas.List.{get_or-reverse, length-reverse, reverse-reverse}
 use Rattle.std.proofs.lemmas.List.Elements.{All-from_recursion}
+use Rattle.lx_spec.proofs.Lists.{each}
 
 from_end : {X : Type 0} (xs : List X) (k : ℕ) (d : X) → k < length xs → get_or xs k d ≡ get_or (reverse xs) (length xs - 1 - k) d
 from_end {X} xs k d h =
@@ -36,5 +37,4 @@ oldest_first runs is = λ i j d le lt.
 -- a run that starts at a moment by which all others have
 pub newest_now : (runs : List Run) (run : Run) (moment : ℕ) → run.start ≡ moment → AllByRecursion (ValidRun moment) runs
     → AllByRecursion (λ r. r.start ≤ run.start) runs
-newest_now [] run moment now all = tt
-newest_now (r ∷ older) run moment now all = (omega (arith, now, all.0.started), newest_now older run moment now all.1)
+newest_now runs run moment now all = each _ _ runs (λ r valid. omega (arith, now, valid.started)) all
