@@ -8,6 +8,7 @@ pub mod ListedRows
 pub mod MarkedRows
 pub mod MarkWords
 pub mod Moves
+pub mod Numbers
 pub mod Past
 pub mod RowPool
 pub mod RightRows

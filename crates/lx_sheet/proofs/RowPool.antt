@@ -4,7 +4,7 @@ use Rattle.lx_sheet.proofs.Imports.{take, drop, refl, ◌∙◌, sym, ap, subst,
 use Rattle.lx_sheet.proofs.Imports.{cases_order, false≢true, append_assoc, map-append, take-map, drop-map, length-map, length-append, get_or-map}
 use Rattle.lx_sheet.proofs.Imports.{get_or_append_left, length-range_with_len, get_or-range_with_len, IsPermutation-sym, IsPermutation-trans}
 use Rattle.lx_sheet.proofs.Imports.{IsPermutation-to_front, IsPermutation-append_left, IsPermutation-append_right, IsPermutation-reverse, IsPermutation-insert}
-use Rattle.lx_sheet.proofs.Imports.{IsPermutation-remove, All-permutation, length_permutation, CUES, Cue, eq_true, eq_below, Place, AreApart, IsPool, own_rows}
+use Rattle.lx_sheet.proofs.Imports.{IsPermutation-remove, All-permutation, length_permutation, CUES, Cue, eq_true, eq_below, Place, AreApart, IsBlock, IsPool, own_rows}
 use Rattle.lx_sheet.proofs.Imports.{placed_from, row_at_place}
 use Rattle.std.specs.List.Sorted.{IsPermutation}
 use Rattle.std.proofs.lemmas.Bool.Decides.{nat_tests}
@@ -23,15 +23,15 @@ differ rows i k apart less within same =
     false≢true (sym (apart_from_distinct (λ a b. a == b) rows i k 0 apart.distinct less within)
     ∙ eq_true (get_or rows i 0) (get_or rows k 0) same)
 
-pub rows_differ : (order : List Place) (i k : ℕ) → AreApart (own_rows order) → i < length order → k < length order → i ≢ k
+pub rows_differ : {n : ℕ} {levels : List ℕ} {order : List Place} (i k : ℕ) → IsBlock n levels order → i < length order → k < length order → i ≢ k
     → row_at_place order i ≢ row_at_place order k
-rows_differ order i k apart low high other same =
+rows_differ {order = order} i k block low high other same =
     let long : length (own_rows order) ≡ length order = length-map order (λ (p : Place). p.row) in
     elim (cases_order i k) [
       | inl here ↦ other here
       | inr two ↦ elim two [
-        | inl less ↦ differ (own_rows order) i k apart less (omega (arith, long)) same
-        | inr more ↦ differ (own_rows order) k i apart more (omega (arith, long)) (sym same)
+        | inl less ↦ differ (own_rows order) i k block.apart less (omega (arith, long)) same
+        | inr more ↦ differ (own_rows order) k i block.apart more (omega (arith, long)) (sym same)
       ]
     ]
 
@@ -48,8 +48,8 @@ front_apart xs ys apart =
       within = λ k d within. subst (λ r. r < CUES) (get_or_append_left xs ys d k within) (apart.within k d (omega (arith, long)));
     }
 
-pub own_apart : (order : List Place) (free : List ℕ) → IsPool order free → AreApart (own_rows order)
-own_apart order free pool = front_apart (own_rows order) free pool.apart
+pub own_apart : {order : List Place} {free : List ℕ} → IsPool order free → AreApart (own_rows order)
+own_apart {order} {free} pool = front_apart (own_rows order) free pool.apart
 
 -- in another order rows stay apart
 flips : (a b : ℕ) → (a == b) ≡ (b == a)

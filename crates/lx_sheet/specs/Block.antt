@@ -1,6 +1,5 @@
 -- How the rows are kept: a block of levels by row, marks beside it, and the cues in order, each with the row of the block that is its own.
-use Rattle.std.specs.Prelude.{◌≡◌, ℕ, zero, suc, ◌+◌, ◌*◌, ◌≤◌, ◌<◌, ◌==◌, List, [], ◌∷◌, ◌++◌, length, map, take, drop, slice_get, slice_index}
-use Rattle.std.specs.Prelude.{IfSome}
+use Rattle.std.specs.Prelude.{◌≡◌, ℕ, zero, suc, ◌+◌, ◌*◌, ◌≤◌, ◌<◌, ◌==◌, List, [], ◌∷◌, ◌++◌, length, map, take, drop, get_or, slice_index}
 use Rattle.std.specs.List.{All, AllByRecursion, IsDistinct, range_with_len}
 use Rattle.lx_base.specs.declared.TheConstants.{CUES, CHANNELS}
 use Rattle.lx_spec.specs.SortedList.{IsStrictlySorted, entries_below}
@@ -92,7 +91,8 @@ cue_level channels order levels k c = cell channels levels (row_at_place order k
 
 -- the channels that the cues decide are marked in their rows
 abbrev pub AreMarked : ℕ → List Place → List Cue → Marks → Type 0
-AreMarked channels order cues marks = (k : ℕ) → IfSome (slice_get cues k) (IsMarkedFor channels marks (row_at_place order k))
+AreMarked channels order cues marks =
+    (k : ℕ) (cue : Cue) → k < length cues → cue ≡ get_or cues k cue → IsMarkedFor channels marks (row_at_place order k) cue
 
 -- the last of this many values, or 0 where there is none
 abbrev pub last_value : ℕ → (ℕ → ℕ) → ℕ

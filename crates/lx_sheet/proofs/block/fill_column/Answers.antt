@@ -24,10 +24,10 @@ loop-place-preserved c =
     let least : 1 ≤ c.get.result = c.get.ensures.least in
     let most : c.get.result ≤ n = omega (arith, c.requires.within) in
     let within : place < length cues = omega (arith, c.loop-place-test.true, c.requires.to) in
-    let there : place < length order = omega (arith, c.requires.order, within) in
+    let there : place < length order = omega (arith, c.requires.places.places, within) in
     let end : row * width n + n ≤ length c.loop-place.levels =
     subst (λ r. r * width n + n ≤ length c.loop-place.levels) (sym of_row)
-    (omega (arith, covered_at n c.args.levels.now order place c.requires.room there)) in
+    (omega (arith, covered_at place c.requires.places.block there)) in
     let new = set c.loop-place.levels (row * width n + (c.get.result - 1)) level in
     let here : cue_level n order new place chan ≡ level =
     ap (λ r. cell n new r chan) (sym of_row)
@@ -36,7 +36,7 @@ loop-place-preserved c =
     let others : (k : ℕ) → k ≢ place → k < length order
     → cue_level n order new k chan ≡ cue_level n order c.loop-place.levels k chan = λ k other inside.
     cell-set_other n c.loop-place.levels row (row_at_place order k) c.get.result chan level least most
-    (λ e _. rows_differ order k place c.requires.rows inside there other (e ∙ of_row)) in
+    (λ e _. rows_differ k place c.requires.places.block inside there other (e ∙ of_row)) in
     let step : level ≡ tracked_on cue chan c.loop-place.level = elim c.if-decides_at.branch [
       | then-decides_at+else-place-sure w ↦
           let same : w.index-cues-place-then-decides_at.result ≡ cue = w.index-cues-place-then-decides_at.is
@@ -67,9 +67,9 @@ loop-place-preserved c =
       others = λ r x other. cell-set_other n c.loop-place.levels row r c.get.result x level least most
           (λ _ e. other (e ∙ is)) ∙ c.loop-place.invariant.others r x other;
       front = λ k less. others k (λ e. omega arith) (omega arith) ∙ c.loop-place.invariant.front k less;
-      back = λ k more inside. others k (λ e. omega arith) (omega (arith, c.requires.order, inside))
+      back = λ k more inside. others k (λ e. omega arith) (omega (arith, c.requires.places.places, inside))
           ∙ c.loop-place.invariant.back k (omega arith) inside;
-      past = λ k more inside. others k (λ e. omega (arith, e, more, c.loop-place-test.true)) (omega (arith, c.requires.order, inside))
+      past = λ k more inside. others k (λ e. omega (arith, e, more, c.loop-place-test.true)) (omega (arith, c.requires.places.places, inside))
           ∙ c.loop-place.invariant.past k more inside;
       rows = λ start k from below. elim (cases_eq k place) [
         | inl e ↦ ap (λ p. cue_level n order new p chan) e ∙ here ∙ tracks start
@@ -82,77 +82,29 @@ loop-place-preserved c =
 within_block : (row channels : ℕ) → row < CUES → row * (channels + 64) ≤ CUES * (channels + 64)
 within_block row channels within = mul-le-mul_right {m = row} {n = CUES} (channels + 64) (omega (arith, within))
 
-pub overflow_cast-at : goal.overflow_cast-at
-overflow_cast-at c = omega (arith, c.get.ensures.most)
-
-pub overflow_sub-at : goal.overflow_sub-at
-overflow_sub-at c = c.get.ensures.least
-
-pub overflow_add-width : goal.overflow_add-width
-overflow_add-width c = omega (arith, c.requires.few)
-
-pub level_before-level-requires-clause-few : goal.level_before-level-requires-clause-few
-level_before-level-requires-clause-few c = c.requires.few
-
-pub level_before-level-requires-clause-room : goal.level_before-level-requires-clause-room
-level_before-level-requires-clause-room c = c.requires.room
-
 pub level_before-level-requires-clause-cues : goal.level_before-level-requires-clause-cues
-level_before-level-requires-clause-cues c = omega (arith, c.requires.from, c.requires.order)
-
-pub level_before-level-requires-clause-rows : goal.level_before-level-requires-clause-rows
-level_before-level-requires-clause-rows c = c.requires.rows
+level_before-level-requires-clause-cues c = omega (arith, c.requires.from, c.requires.places.places)
 
 pub level_before-level-requires-clause-within : goal.level_before-level-requires-clause-within
 level_before-level-requires-clause-within c = omega (arith, c.get.ensures.value, c.get.ensures.least, c.requires.within)
 
 pub own_row-row-requires-clause-place : goal.own_row-row-requires-clause-place
-own_row-row-requires-clause-place c = omega (arith, c.loop-place-test.true, c.requires.to, c.requires.order)
-
-pub own_row-row-requires-clause-rows : goal.own_row-row-requires-clause-rows
-own_row-row-requires-clause-rows c = c.requires.rows
-
-pub bounds-cues-place : goal.bounds-cues-place
-bounds-cues-place c = omega (arith, c.loop-place-test.true, c.requires.to)
-
-pub decides_at-requires-clause-row : goal.decides_at-requires-clause-row
-decides_at-requires-clause-row c = c.own_row-row.ensures.within
-
-pub returns-then-place-sure-clause-others : goal.returns-then-place-sure-clause-others
-returns-then-place-sure-clause-others c = c.loop-place.invariant.others
-
-pub returns-then-place-sure-clause-front : goal.returns-then-place-sure-clause-front
-returns-then-place-sure-clause-front c = c.loop-place.invariant.front
-
-pub returns-then-place-sure-clause-back : goal.returns-then-place-sure-clause-back
-returns-then-place-sure-clause-back c = c.loop-place.invariant.back
-
-pub returns-then-place-sure-clause-rows : goal.returns-then-place-sure-clause-rows
-returns-then-place-sure-clause-rows c = c.loop-place.invariant.rows
-
-pub bounds-cues-place-then-decides_at : goal.bounds-cues-place-then-decides_at
-bounds-cues-place-then-decides_at c = omega (arith, c.loop-place-test.true, c.requires.to)
+own_row-row-requires-clause-place c = omega (arith, c.loop-place-test.true, c.requires.to, c.requires.places.places)
 
 pub overflow_mul-levels : goal.overflow_mul-levels
-overflow_mul-levels c = omega (arith, within_block c.own_row-row.result c.args.channels c.own_row-row.ensures.within, c.requires.few)
+overflow_mul-levels c = omega (arith, within_block c.own_row-row.result c.args.channels c.own_row-row.ensures.within, c.requires.places.block.few)
 
 pub overflow_add-levels : goal.overflow_add-levels
 overflow_add-levels c =
-    omega (arith, within_block c.own_row-row.result c.args.channels c.own_row-row.ensures.within, c.requires.few, c.get.ensures.most)
+    omega (arith, within_block c.own_row-row.result c.args.channels c.own_row-row.ensures.within, c.requires.places.block.few, c.get.ensures.most)
 
 pub bounds-levels-row : goal.bounds-levels-row
 bounds-levels-row c =
-    let there : c.loop-place.place < length c.args.order.now = omega (arith, c.loop-place-test.true, c.requires.to, c.requires.order) in
+    let there : c.loop-place.place < length c.args.order.now = omega (arith, c.loop-place-test.true, c.requires.to, c.requires.places.places) in
     let end : (c.own_row-row.result + 1) * width c.args.channels ≤ length c.args.levels.now =
     subst (λ r. (r + 1) * width c.args.channels ≤ length c.args.levels.now) (sym c.own_row-row.ensures.row)
-    (covered_at c.args.channels c.args.levels.now c.args.order.now c.loop-place.place c.requires.room there) in
+    (covered_at c.loop-place.place c.requires.places.block there) in
     omega (arith, end, c.loop-place.auto.levels, c.get.ensures.value, c.get.ensures.least, c.requires.within)
-
-pub returns-clause-others : goal.returns-clause-others
-returns-clause-others c = c.loop-place.invariant.others
-
-pub returns-clause-front : goal.returns-clause-front
-returns-clause-front c = c.loop-place.invariant.front
 
 pub returns-clause-back : goal.returns-clause-back
 returns-clause-back c = c.loop-place.invariant.past
