@@ -2,7 +2,7 @@
 use Rattle.lx_sheet.proofs.Imports.{◌≡◌, ◌≢◌, ℕ, zero, suc, ◌+◌, ◌-◌, ◌*◌, ◌<◌, ◌≤◌, List, ◌∷◌, length, get_or, set}
 use Rattle.lx_sheet.proofs.Imports.{take, drop, refl, ◌∙◌, sym, ap, subst, inl, inr, arith, mul-le-mul_right, cases_lt, cases_order, get_or-take}
 use Rattle.lx_sheet.proofs.Imports.{get_or-drop, get_or_past, get_or-set_same, get_or-set_other, length-take, drop-take, Agree, level_in_look, last_value}
-use Rattle.lx_sheet.proofs.Imports.{width}
+use Rattle.lx_sheet.proofs.Imports.{CUES, width}
 use borrow.Rule.Slice.PartMut.{put_mid}
 use Rattle.std.proofs.lemmas.Slice.{between-put_mid, take-put_mid_below, drop-put_mid}
 use Rattle.lx_sheet.specs.Block.{cell}
@@ -137,3 +137,7 @@ same_look a b long agree (suc k) =
       | inl within ↦ agree k (omega arith) within
       | inr past ↦ get_or_past a k 0 past ∙ sym (get_or_past b k 0 (omega arith))
     ]
+
+-- a row of the block begins below its end
+pub within_block : (row channels : ℕ) → row < CUES → row * width channels ≤ CUES * width channels
+within_block row channels within = mul-le-mul_right {m = row} {n = CUES} (width channels) (omega (arith, within))

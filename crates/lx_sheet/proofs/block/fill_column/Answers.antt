@@ -1,7 +1,7 @@
 use Rattle.lx_sheet.proofs.Imports.{◌≡◌, ◌≢◌, ℕ, ◌+◌, ◌*◌, ◌-◌, ◌<◌, ◌≤◌, false, cond, Bool, List, length, take, set}
 use Rattle.lx_sheet.proofs.Imports.{Option, Some, ap, sym, ◌∙◌, subst, inl, inr, arith, IfSome, slice_get, cases_eq, get_or_default, slice_get-get_or}
 use Rattle.lx_sheet.proofs.Imports.{Cue, decides, level_in, Place, cell, cue_level, row_at_place, last_value, width, level_after, tracked_on}
-use Rattle.lx_sheet.proofs.Cells.{cell-set_here, cell-set_other}
+use Rattle.lx_sheet.proofs.Cells.{cell-set_here, cell-set_other, within_block}
 use Rattle.lx_sheet.proofs.BlockReach.{covered_at}
 use Rattle.lx_sheet.proofs.LevelsAfter.{level_after-take}
 use Rattle.lx_sheet.proofs.RowPool.{rows_differ}
@@ -77,10 +77,6 @@ loop-place-preserved c =
         | inr apart ↦ others k apart (omega arith) ∙ c.loop-place.invariant.rows start k from (omega arith)
       ];
     }
-
--- a row of the block begins below its end
-within_block : (row channels : ℕ) → row < CUES → row * (channels + 64) ≤ CUES * (channels + 64)
-within_block row channels within = mul-le-mul_right {m = row} {n = CUES} (channels + 64) (omega (arith, within))
 
 pub level_before-level-requires-clause-cues : goal.level_before-level-requires-clause-cues
 level_before-level-requires-clause-cues c = omega (arith, c.requires.from, c.requires.places.places)
