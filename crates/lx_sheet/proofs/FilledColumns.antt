@@ -4,44 +4,32 @@ use Rattle.lx_sheet.proofs.Imports.{◌∙◌, sym, ap, arith, inl, inr, Option,
 use Rattle.lx_sheet.proofs.Imports.{cases_lt, IsStrictlySorted, entries_above, entries_below, Cue, Show, decides, tracked, le_false, le_true, lt_false, lt_true}
 use Rattle.lx_sheet.proofs.Imports.{each, filter_all, filter_none, found_has, kept_by, entries_up_to, Place, level_by, rows_of, cue_level, last_value}
 use Rattle.lx_sheet.proofs.Imports.{count_under, level_after, IsDecision, IsEnd, IsRight, cue_numbers, next_decision}
-use Rattle.lx_sheet.proofs.RightRows.{IsOrderOf, column_right, count_under-map, last_right, none_left, right_at, right_below, sorted_numbers, until}
+use Rattle.lx_sheet.proofs.RightRows.{IsOrderOf, column_right, last_right, none_left, right_at, right_below, until}
+use Rattle.lx_sheet.proofs.Numbers.{count_under-map, sorted_numbers}
 
--- a column whose rows up to a place were filled in, and whose rows from there on stood, where `last` is that place
-pub column_filled : (show : Show) (channels : ℕ) (order given : List Place) (old before new : List ℕ) (cues : List Cue)
-    (from chan first last : ℕ) → given ≡ order → before ≡ old → cues ≡ show.cues → IsOrderOf show order
+-- The channel's column was filled in from a place up to another: the rows from there on and those before are as they were, and the others
+-- are right where the last one before was.
+pub record FillsColumn (channels : ℕ) (order : List Place) (cues : List Cue) (levels filled : List ℕ) (chan first last : ℕ) : Type 0 where
+  pub front : (k : ℕ) → k < first → cue_level channels order filled k chan ≡ cue_level channels order levels k chan
+  pub back : (k : ℕ) → last ≤ k → k < length cues → cue_level channels order filled k chan ≡ cue_level channels order levels k chan
+  pub rows : last_value first (λ k. cue_level channels order levels k chan) ≡ level_after (take first cues) chan → (k : ℕ) → first ≤ k → k < last
+      → IsRight channels order cues filled k chan
+
+-- a column whose rows up to a place were filled in, and whose rows from there on stood
+pub column_filled : {show : Show} {channels : ℕ} {order : List Place} {levels filled : List ℕ} {chan first last : ℕ} (from : ℕ) → IsOrderOf show order
     → first ≡ count_under from (cue_numbers show)
-    → ((n : ℕ) → n < from → level_by (rows_of channels order old) n chan ≡ tracked show n chan)
+    → ((n : ℕ) → n < from → level_by (rows_of channels order levels) n chan ≡ tracked show n chan)
     → ((k : ℕ) → last ≤ k → k < length show.cues
-    → level_by (rows_of channels order old) (get_or (cue_numbers show) k 0) chan ≡ tracked show (get_or (cue_numbers show) k 0) chan)
-    → ((k : ℕ) → k < first → cue_level channels given new k chan ≡ cue_level channels given before k chan)
-    → ((k : ℕ) → last ≤ k → k < length cues → cue_level channels given new k chan ≡ cue_level channels given before k chan)
-    → (last_value first (λ k. cue_level channels given before k chan) ≡ level_after (take first cues) chan → (k : ℕ) → first ≤ k → k < last
-    → IsRight channels given cues new k chan)
-    → (n : ℕ) → level_by (rows_of channels order new) n chan ≡ tracked show n chan
-column_filled show channels order given old before new cues from chan first last of_order of_old of_cues is of_first below above front
-    back rows =
-    let stood : (k : ℕ) → k < first → IsRight channels order show.cues old k chan =
-    λ k less. right_below show from channels order old chan k is below (omega (arith, of_first, less)) in
-    let start : last_value first (λ k. cue_level channels given before k chan) ≡ level_after (take first cues) chan =
-    ap (λ (xs : List Place). last_value first (λ k. cue_level channels xs before k chan)) of_order
-    ∙ ap (λ (xs : List ℕ). last_value first (λ k. cue_level channels order xs k chan)) of_old
-    ∙ last_right channels order show.cues old chan first stood
-    ∙ sym (ap (λ (xs : List Cue). level_after (take first xs) chan) of_cues) in
-    let stays : (k : ℕ) → cue_level channels given new k chan ≡ cue_level channels given before k chan
-    → cue_level channels order new k chan ≡ cue_level channels order old k chan =
-    λ k same. ap (λ (xs : List Place). cue_level channels xs new k chan) (sym of_order) ∙ same
-    ∙ ap (λ (xs : List Place). cue_level channels xs before k chan) of_order
-    ∙ ap (λ (xs : List ℕ). cue_level channels order xs k chan) of_old in
-    column_right show channels order new chan is (λ k within. elim (cases_lt k first) [
-      | inl less ↦ stays k (front k less) ∙ stood k less
+    → level_by (rows_of channels order levels) (get_or (cue_numbers show) k 0) chan ≡ tracked show (get_or (cue_numbers show) k 0) chan)
+    → FillsColumn channels order show.cues levels filled chan first last → (n : ℕ) → level_by (rows_of channels order filled) n chan ≡ tracked show n chan
+column_filled {show} {channels} {order} {levels} {filled} {chan} {first} {last} from is of_first below above fills =
+    let stood : (k : ℕ) → k < first → IsRight channels order show.cues levels k chan =
+    λ k less. right_below is channels levels chan from k below (omega (arith, of_first, less)) in
+    column_right is channels filled chan (λ k within. elim (cases_lt k first) [
+      | inl less ↦ fills.front k less ∙ stood k less
       | inr least ↦ elim (cases_lt k last) [
-        | inl filled ↦
-            ap (λ (xs : List Place). cue_level channels xs new k chan) (sym of_order)
-            ∙ rows start k least filled
-            ∙ ap (λ (xs : List Cue). level_after (take (k + 1) xs) chan) of_cues
-        | inr past ↦
-            stays k (back k past (omega (arith, ap length of_cues, within)))
-            ∙ right_at show channels order old chan k is within (above k past within)
+        | inl less ↦ fills.rows (last_right channels order show.cues levels chan first stood) k least less
+        | inr past ↦ fills.back k past within ∙ right_at is channels levels chan k within (above k past within)
       ]
     ])
 

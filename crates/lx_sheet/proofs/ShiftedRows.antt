@@ -29,8 +29,15 @@ swapped front x y back {old} {new} {at} {a} {b} was now long wide now_wide = rec
   back = ap (drop a) was ∙ behind front x back a (omega arith) ∙ sym (ap (drop b) now ∙ behind front y back b (omega arith));
   order = omega arith;
   within = omega (arith, ap length was, length-append front (x ++ back), length-append x back);
-  long = omega (arith, ap length was, length-append front (x ++ back), length-append x back, ap length now, length-append front (y ++ back),
-      length-append y back);
+  long = omega (
+    arith,
+    ap length was,
+    length-append front (x ++ back),
+    length-append x back,
+    ap length now,
+    length-append front (y ++ back),
+    length-append y back,
+  );
 }
 
 swapped-map : {A B : Type 0} (f : A → B) {old new : List A} {at a b : ℕ} → IsSwapped old new at a b → IsSwapped (map f old) (map f new) at a b

@@ -22,8 +22,12 @@ pub own_row-row-requires-clause-rows : goal.own_row-row-requires-clause-rows
 own_row-row-requires-clause-rows c = rw c.deref.ensures.value (own_apart c.add_place.ensures.kept.pool)
 
 pub own_row-row-requires-clause-place : goal.own_row-row-requires-clause-place
-own_row-row-requires-clause-place c = omega (arith, ap length c.deref.ensures.value,
-    ap length c.in-Some.ensures.added ∙ length-insert c.self.inside.order.items c.in-Some.at _ c.in-Some.ensures.goes.within, c.in-Some.ensures.goes.within)
+own_row-row-requires-clause-place c = omega (
+  arith,
+  ap length c.deref.ensures.value,
+  ap length c.in-Some.ensures.added ∙ length-insert c.self.inside.order.items c.in-Some.at _ c.in-Some.ensures.goes.within,
+  c.in-Some.ensures.goes.within,
+)
 
 pub fill_inserted-requires-clause-places : goal.fill_inserted-requires-clause-places
 fill_inserted-requires-clause-places c =
@@ -49,8 +53,12 @@ returns-then-len-cues c = λ before cue stands number absent now.
     let s : IsShifted before show old new at at (at + 1) = came _ cue stood c.add_place.ensures.kept.sorted c.cues-cues.ensures.valid.cues_sorted
     c.in-Some.ensures.goes c.in-Some.ensures.added number now in
     let fills : FillsRows channels new show.cues levels filled at (at + 1) =
-    (rw (ap length c.deref_mut-then-len-cues.ensures.value ∙ c.self.invariant.look_room, c.deref-then-len-cues.ensures.value, c.cues-cues.ensures.cues,
-    c.deref_mut.ensures.value) at c.fill_inserted.ensures) (passed s stood) in
+    (rw (
+      ap length c.deref_mut-then-len-cues.ensures.value ∙ c.self.invariant.look_room,
+      c.deref-then-len-cues.ensures.value,
+      c.cues-cues.ensures.cues,
+      c.deref_mut.ensures.value,
+    ) at c.fill_inserted.ensures) (passed s stood) in
     let block = block_inserted at c.args.n c.self.invariant.block c.add_place.ensures.kept.pool c.in-Some.ensures.added c.deref.ensures.value
     c.own_row-row.ensures.row c.reach.ensures.length in
     let wide : channels ≤ 64 * c.reach-in-Some.new.self.groups =
@@ -116,5 +124,11 @@ invariant_of-self-in_default c = record {
 }
 
 pub bounds-cues-at : goal.bounds-cues-at
-bounds-cues-at c = omega (arith, c.if-len-cues.true, c.len.ensures, c.add_place.new.order.ok,
-    ap length c.in-Some.ensures.added ∙ length-insert c.self.inside.order.items c.in-Some.at _ c.in-Some.ensures.goes.within, c.in-Some.ensures.goes.within)
+bounds-cues-at c = omega (
+  arith,
+  c.if-len-cues.true,
+  c.len.ensures,
+  c.add_place.new.order.ok,
+  ap length c.in-Some.ensures.added ∙ length-insert c.self.inside.order.items c.in-Some.at _ c.in-Some.ensures.goes.within,
+  c.in-Some.ensures.goes.within,
+)

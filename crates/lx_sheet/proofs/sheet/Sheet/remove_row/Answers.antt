@@ -50,8 +50,12 @@ returns-then-len-cues c = λ before stands now.
     let s : IsShifted before show old new at (at + 1) at = gone stood c.drop_place.ensures.kept.sorted c.cues-cues.ensures.valid.cues_sorted
     c.in-Some.ensures.stands c.in-Some.ensures.dropped now in
     let fills : FillsRows channels new show.cues levels filled at at =
-    (rw (ap length c.deref_mut-then-len-cues.ensures.value ∙ c.self.invariant.look_room, c.deref.ensures.value, c.cues-cues.ensures.cues,
-    c.deref_mut.ensures.value) at c.fill_removed.ensures) (left_behind s stood c.in-Some.ensures.row) in
+    (rw (
+      ap length c.deref_mut-then-len-cues.ensures.value ∙ c.self.invariant.look_room,
+      c.deref.ensures.value,
+      c.cues-cues.ensures.cues,
+      c.deref_mut.ensures.value,
+    ) at c.fill_removed.ensures) (left_behind s stood c.in-Some.ensures.row) in
     rw (with_items_is c.self.inside.levels filled (omega arith))
     (stands_of (places_shifted s stood fills unmarked (ap (λ (s : Sheet). s.channels) c.self.view_is ∙ c.requires)))
 

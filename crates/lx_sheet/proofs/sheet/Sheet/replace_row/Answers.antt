@@ -49,8 +49,12 @@ returns-then-order-cues c = λ before cue stands number there now.
     let place : StandsAt (λ p. p.cue) c.args.n order at = rw (c.get.ensures.value, c.as_slice-order.ensures.value) at c.in-Ok.ensures.stands in
     let s : IsShifted before show order order at (at + 1) (at + 1) = exchanged cue stood c.cues-cues.ensures.valid.cues_sorted place number now in
     let fills : FillsRows channels order show.cues levels filled at (at + 1) =
-    rw (ap length c.deref_mut-then-order-cues.ensures.value ∙ c.self.invariant.look_room, c.as_slice-order.ensures.value, c.cues-cues.ensures.cues,
-    c.deref_mut.ensures.value) at c.fill_from.ensures in
+    rw (
+      ap length c.deref_mut-then-order-cues.ensures.value ∙ c.self.invariant.look_room,
+      c.as_slice-order.ensures.value,
+      c.cues-cues.ensures.cues,
+      c.deref_mut.ensures.value,
+    ) at c.fill_from.ensures in
     let wide : channels ≤ 64 * c.self.inside.marks.groups = c.self.invariant.marked.table.groups in
     rw (with_items_is c.self.inside.levels filled (omega arith))
     (stands_of (places_shifted s stood fills
@@ -85,7 +89,10 @@ invariant_of-self c =
       kept = c.self.invariant.kept;
       block = block_longer c.self.invariant.block (omega (arith, filled));
       level_room = c.self.invariant.level_room;
-      look_room = omega (arith, c.self.invariant.look_room,
-          length_refill c.self.inside.look.len c.self.inside.look.items c.fill_from.new.look (omega arith));
+      look_room = omega (
+        arith,
+        c.self.invariant.look_room,
+        length_refill c.self.inside.look.len c.self.inside.look.items c.fill_from.new.look (omega arith),
+      );
       marked = marks_kept c.self.invariant.marked c.write.ensures.table (filled ∙ omega arith);
     }
