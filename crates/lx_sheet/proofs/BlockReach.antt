@@ -6,7 +6,7 @@ use Rattle.lx_sheet.proofs.Imports.{get_or_default, length-range_with_len, get_o
 use Rattle.lx_sheet.proofs.Imports.{Cue, Place, IsBlock, IsPool, CHANNELS, max, cell, own_rows, placed_from, row_at_place, width}
 use Rattle.lx_sheet.proofs.Cells.{cell_is, cell_past, cell_zero}
 use Rattle.std.proofs.lemmas.List.Elements.{All-cons}
-use Rattle.lx_sheet.proofs.RowPool.{own_apart, own-insert, own-remove, own-placed_from}
+use Rattle.lx_sheet.proofs.RowPool.{own_apart, own-insert, own-remove}
 
 -- over the row at a place
 pub covered_at : {channels : ℕ} {levels : List ℕ} {order : List Place} (k : ℕ) → IsBlock channels levels order → k < length order
@@ -48,19 +48,6 @@ block_removed {channels} {levels} {old} {new} at block pool dropped within =
       covered = subst (All P) (sym (ap own_rows dropped ∙ own-remove old at)) (λ k d less. all (suc k) d (omega arith));
       apart = own_apart pool;
     }
-
--- over the rows of cues that were listed, where it is as long
-pub block_listed : {channels : ℕ} {levels : List ℕ} {order : List Place} {free : List ℕ} (cues : List Cue) → channels ≤ CHANNELS
-    → IsPool order free → order ≡ placed_from 0 cues → length cues * width channels ≤ length levels → IsBlock channels levels order
-block_listed {channels} {levels} cues few pool listed long = record {
-  few = few;
-  covered = rw (ap own_rows listed ∙ own-placed_from 0 cues) (λ k d within.
-      let less : k < length cues = omega (arith, length-range_with_len 0 (length cues)) in
-      let row : k ≡ get_or (range_with_len 0 (length cues)) k d = omega (arith, get_or-range_with_len 0 (length cues) k d less) in
-      subst (λ r. (r + 1) * width channels ≤ length levels) row
-      (omega (arith, long, mul-le-mul_right {m = k + 1} {n = length cues} (width channels) (omega arith))));
-  apart = own_apart pool;
-}
 
 -- what isn't there reads as 0, and so does what is new
 pub grown : (levels : List ℕ) (n i : ℕ) → get_or (levels ++ replicate n 0) i 0 ≡ get_or levels i 0

@@ -5,6 +5,7 @@ use Rattle.lx_sheet.proofs.Imports.{get_or-drop, get_or_past, get_or-set_same, g
 use Rattle.lx_sheet.proofs.Imports.{CUES, width}
 use borrow.Rule.Slice.PartMut.{put_mid}
 use Rattle.std.proofs.lemmas.Slice.{between-put_mid, take-put_mid_below, drop-put_mid}
+use Rattle.std.proofs.lemmas.Nat.{same_from_place}
 use Rattle.lx_sheet.specs.Block.{cell}
 
 one_below : (c : ℕ) → 1 ≤ c → suc (c - 1) ≡ c
@@ -46,25 +47,9 @@ pub cell_zero : (channels : ℕ) (levels : List ℕ) (k : ℕ) → cell channels
 unfolding cell
 cell_zero channels levels k = refl
 
-apart_rows : (channels i k a b : ℕ) → i < k → a < channels → b < channels → i * channels + a ≡ k * channels + b → ⊥
-apart_rows channels i k a b less within within' same =
-    let more : suc i * channels ≤ k * channels = mul-le-mul_right channels (omega arith) in
-    omega arith
-
 -- two places of the block are one only at one row and channel
 pub places_apart : (channels i k a b : ℕ) → a < channels → b < channels → i * channels + a ≡ k * channels + b → (i ≡ k) × (a ≡ b)
-places_apart channels i k a b within within' same =
-    elim (cases_order i k) [
-      | inl here ↦ (
-        here,
-        let e : k * channels + a ≡ k * channels + b =
-            subst (λ n. n * channels + a ≡ k * channels + b) here same in omega arith,
-      )
-      | inr other ↦ elim other [
-        | inl less ↦ absurd (apart_rows channels i k a b less within within' same)
-        | inr more ↦ absurd (apart_rows channels k i b a more within' within (sym same))
-      ]
-    ]
+places_apart channels i k a b = same_from_place i a k b channels
 
 -- a level written into the block
 pub cell-set_here : (channels : ℕ) (levels : List ℕ) (k c level : ℕ) → 1 ≤ c → c ≤ channels → k * width channels + (c - 1) < length levels

@@ -1,11 +1,15 @@
 -- A column that was filled in from a cue on stands for the show.
-use Rattle.lx_sheet.proofs.Imports.{◌≡◌, ℕ, zero, suc, ◌+◌, ◌<◌, ◌≤◌, true, false, List, [], ◌∷◌, length, get_or, map, take, refl}
-use Rattle.lx_sheet.proofs.Imports.{◌∙◌, sym, ap, arith, inl, inr, Option, Some, None, IfSome, find, option_map, slice_get, IsSomeAnd, AllByRecursion}
-use Rattle.lx_sheet.proofs.Imports.{cases_lt, IsStrictlySorted, entries_above, entries_below, Cue, Show, decides, tracked, le_false, le_true, lt_false, lt_true}
-use Rattle.lx_sheet.proofs.Imports.{each, filter_all, filter_none, found_has, kept_by, entries_up_to, Place, level_by, rows_of, cue_level, last_value}
-use Rattle.lx_sheet.proofs.Imports.{count_under, level_after, IsDecision, IsEnd, IsRight, cue_numbers, next_decision}
-use Rattle.lx_sheet.proofs.RightRows.{IsOrderOf, column_right, last_right, none_left, right_at, right_below, until}
-use Rattle.lx_sheet.proofs.Numbers.{count_under-map, sorted_numbers}
+use Rattle.lx_sheet.proofs.Imports.{◌≡◌, ℕ, zero, suc, ◌+◌, ◌<◌, ◌≤◌, ◌&&◌, Bool, true, false, List, [], ◌∷◌, length, get_or, map, take, refl}
+use Rattle.lx_sheet.proofs.Imports.{◌∙◌, sym, ap, subst, arith, inl, inr, Option, Some, None, IfSome, filter, find, option_map, slice_get, IsSomeAnd}
+use Rattle.lx_sheet.proofs.Imports.{nat_le, nat_lt, cases_lt, length-map, get_or-map, slice_get-get_or, All-from_recursion, IsStrictlySorted, Cue, Show, new_cue}
+use Rattle.lx_sheet.proofs.Imports.{decides, tracked, lt_true, entries_up_to, Place, Sheet, level_by, level_of, rows_of, cue_level, last_value}
+use Rattle.lx_sheet.proofs.Imports.{count_under, level_after, IsDecision, IsEnd, IsRight, StandsFrom, cue_numbers, next_decision}
+use Rattle.std.proofs.lemmas.Bool.{cases_Bool}
+use Rattle.std.proofs.lemmas.Bool.Decides.{nat_tests}
+use Rattle.lx_spec.proofs.Lists.{find_both}
+use Rattle.lx_spec.proofs.SortedLists.{in_order}
+use Rattle.lx_sheet.proofs.Numbers.{count_under-map, count_up_to, count_up_to-map, sorted_numbers}
+use Rattle.lx_sheet.proofs.RightRows.{IsOrderOf, column_right, last_right, reached, right_at, right_below}
 
 -- The channel's column was filled in from a place up to another: the rows from there on and those before are as they were, and the others
 -- are right where the last one before was.
@@ -40,87 +44,40 @@ end_is cues chan from to end is = elim (cases_lt end to) [
   | inr past ↦ omega (arith, past, is.most)
 ]
 
-until_more : (x : Cue) (xs : List Cue) (o : Option Cue) → IfSome o (λ d. x.number < d.number)
-    → until (option_map (λ d. d.number) o) (x ∷ xs) ≡ suc (until (option_map (λ d. d.number) o) xs)
-until_more x xs None low = refl
-until_more x xs (Some d) low = rw (lt_true x.number d.number low) refl
+up_to_is_under : (n : ℕ) (numbers : List ℕ) → count_up_to n numbers ≡ count_under (n + 1) numbers
+up_to_is_under n numbers =
+    let same : (m : ℕ) → nat_le m n ≡ nat_lt m (n + 1) = λ m. grind (arith, nat_tests) in
+    λ i. length (filter (λ m. same m i) numbers)
 
--- the first cue that decides the channel
-first_decision : (c end : ℕ) (xs : List Cue) → IsStrictlySorted (λ x. x.number) xs → end ≤ length xs
-    → ((k : ℕ) → k < end → IfSome (slice_get xs k) (λ x. decides x c ≡ false))
-    → (end < length xs → IsSomeAnd (slice_get xs end) (λ x. decides x c ≡ true))
-    → end ≡ until (option_map (λ x. x.number) (find (λ x. decides x c) xs)) xs
-first_decision c end [] sorted within passed stops = omega (arith, within)
-first_decision c zero (x ∷ xs) sorted within passed stops =
-    let here : decides x c ≡ true = stops (omega arith) in
-    let none : count_under x.number (map (λ y. y.number) xs) ≡ 0 =
-    none_left x.number x.number (map (λ y. y.number) xs) (sorted_numbers (λ y. y.number) (x ∷ xs) sorted) (omega arith) in
-    rw here (rw (lt_false x.number x.number (omega arith)) (sym none))
-first_decision c (suc end) (x ∷ xs) sorted within passed stops =
-    let other : decides x c ≡ false = passed 0 (omega arith) in
-    let rest : end ≡ until (option_map (λ y. y.number) (find (λ y. decides y c) xs)) xs =
-    first_decision c end xs sorted.1 (omega arith) (λ k less. passed (suc k) (omega arith)) (λ less. stops (omega (arith, less))) in
-    let above : IfSome (find (λ y. decides y c) xs) (λ d. x.number < d.number) =
-    found_has (λ d. x.number < d.number) (λ y. decides y c) xs _ refl sorted.0 in
-    rw other (ap suc rest ∙ sym (until_more x xs (find (λ y. decides y c) xs) above))
-
--- where all cues are above the number it is that one
-all_above : (c n end : ℕ) (x : Cue) (xs : List Cue) → IsStrictlySorted (λ y. y.number) (x ∷ xs) → n < x.number → end ≤ length (x ∷ xs)
-    → ((k : ℕ) → length (entries_up_to (λ y. y.number) n (x ∷ xs)) ≤ k → k < end → IfSome (slice_get (x ∷ xs) k) (λ y. decides y c ≡ false))
-    → (end < length (x ∷ xs) → IsDecision (x ∷ xs) c (length (entries_up_to (λ y. y.number) n (x ∷ xs))) end)
-    → end ≡ until (option_map (λ y. y.number) (find (λ y. decides y c) (entries_above (λ y. y.number) n (x ∷ xs)))) (x ∷ xs)
-all_above c n end x xs sorted above within passed stops =
-    let key : Cue → ℕ = λ y. y.number in
-    let all : AllByRecursion (λ y. n < key y) (x ∷ xs) = (above, each _ _ xs (λ y h. omega (arith, h, above)) sorted.0) in
-    let kept : entries_above key n (x ∷ xs) ≡ x ∷ xs = filter_all _ (x ∷ xs) (each _ _ (x ∷ xs) (λ y h. lt_true n (key y) h) all) in
-    let none : entries_up_to key n (x ∷ xs) ≡ [] = filter_none _ (x ∷ xs) (each _ _ (x ∷ xs) (λ y h. le_false (key y) n h) all) in
-    first_decision c end (x ∷ xs) sorted within (λ k less. passed k (omega (arith, ap length none)) less) (λ less. (stops less).decides)
-    ∙ sym (ap (λ ys. until (option_map key (find (λ y. decides y c) ys)) (x ∷ xs)) kept)
-
--- the first from those above the number on
-decision_above : (c n end : ℕ) (xs : List Cue) → IsStrictlySorted (λ x. x.number) xs → end ≤ length xs
-    → ((k : ℕ) → length (entries_up_to (λ x. x.number) n xs) ≤ k → k < end → IfSome (slice_get xs k) (λ x. decides x c ≡ false))
-    → (end < length xs → IsDecision xs c (length (entries_up_to (λ x. x.number) n xs)) end)
-    → end ≡ until (option_map (λ x. x.number) (find (λ x. decides x c) (entries_above (λ x. x.number) n xs))) xs
-decision_above c n end [] sorted within passed stops = omega (arith, within)
-decision_above c n zero (x ∷ xs) sorted within passed stops = elim (cases_lt n x.number) [
-  | inl above ↦ all_above c n zero x xs sorted above within passed stops
-  | inr le ↦
-      let least : suc (length (entries_up_to (λ y. y.number) n xs)) ≤ 0 =
-      rw (le_true x.number n le) at (stops (omega arith)).least in
-      absurd (omega (arith, least))
-]
-decision_above c n (suc end) (x ∷ xs) sorted within passed stops = elim (cases_lt n x.number) [
-  | inl above ↦ all_above c n (suc end) x xs sorted above within passed stops
-  | inr le ↦
-      let key : Cue → ℕ = λ y. y.number in
-      let more : length (entries_up_to key n (x ∷ xs)) ≡ suc (length (entries_up_to key n xs)) = rw (le_true x.number n le) refl in
-      let rest : end ≡ until (option_map key (find (λ y. decides y c) (entries_above key n xs))) xs =
-      decision_above c n end xs sorted.1 (omega arith) (λ k least less. passed (suc k) (omega (arith, more, least)) (omega arith))
-      (λ less. record { least = omega (arith, more, (stops (omega (arith, less))).least); decides = (stops (omega (arith, less))).decides }) in
-      let higher : IfSome (find (λ y. decides y c) (entries_above key n xs)) (λ d. x.number < d.number) =
-      found_has (λ d. x.number < d.number) (λ y. decides y c) (entries_above key n xs) _ refl (kept_by _ _ xs sorted.0) in
-      rw (lt_false n x.number le) (ap suc rest ∙ sym (until_more x xs (find (λ y. decides y c) (entries_above key n xs)) higher))
+-- From the first entry that passes a test on it holds, and so at each that passes it and at those behind.
+behind_first : (p : Cue → Bool) (Q : ℕ → Type 0) (xs : List Cue) (k m : ℕ) (d : Cue) → IsStrictlySorted (λ x. x.number) xs → k < length xs
+    → p (get_or xs k d) ≡ true → (get_or xs k d).number ≤ m → IfSome (option_map (λ x. x.number) (find p xs)) (λ e. (n : ℕ) → e ≤ n → Q n) → Q m
+behind_first p Q [] k m d sorted within is low above = absurd (omega arith)
+behind_first p Q (x ∷ xs) zero m d sorted within is low above = (rw is at above) m low
+behind_first p Q (x ∷ xs) (suc k) m d sorted within is low above = elim (cases_Bool (p x)) [
+  | inl here ↦ (rw here at above) m (omega (arith, low, All-from_recursion (λ y. x.number < y.number) xs sorted.0 k d (omega arith)))
+  | inr other ↦ behind_first p Q xs k m d sorted.1 (omega arith) is low (rw other at above)
 ]
 
-fewer : (n : ℕ) (xs : List Cue) → length (entries_below (λ x. x.number) n xs) ≤ length (entries_up_to (λ x. x.number) n xs)
-fewer n [] = omega arith
-fewer n (x ∷ xs) = elim (cases_lt x.number n) [
-  | inl low ↦ rw (lt_true x.number n low, le_true x.number n (omega arith)) (omega (arith, fewer n xs))
-  | inr high ↦ rw (lt_false x.number n high) (elim (cases_lt n x.number) [
-    | inl above ↦ rw (le_false x.number n above) (fewer n xs)
-    | inr here ↦ rw (le_true x.number n here) (omega (arith, fewer n xs))
-  ])
-]
-
--- it was filled in up to the next decision above the number
-pub end_is_decision : (show : Show) (from chan next to end : ℕ) → IsStrictlySorted (λ x. x.number) show.cues
-    → next ≡ length (entries_up_to (λ x. x.number) from show.cues) → to ≡ length show.cues
-    → IsEnd show.cues chan (count_under from (cue_numbers show)) next to end → end ≡ until (next_decision show from chan) show.cues
-end_is_decision show from chan next to end sorted of_next of_to is =
-    let first : length (entries_below (λ x. x.number) from show.cues) ≡ count_under from (cue_numbers show) =
-    count_under-map (λ (x : Cue). x.number) from show.cues in
-    decision_above chan from end show.cues sorted (omega (arith, is.most, of_to))
-    (λ k least less. is.passed k (omega (arith, first, fewer from show.cues, least)) (omega (arith, of_next, least)) less)
-    (λ less. let stops : IsDecision show.cues chan next end = is.stops (omega (arith, of_to, less)) in
-    record { least = omega (arith, of_next, stops.least); decides = stops.decides })
+-- where it was filled in up to a decision above a number, the sheet stands from there on, if it does from the next one on
+pub stands_behind : {c first next to end : ℕ} (show : Show) (sheet : Sheet) (from : ℕ) → IsStrictlySorted (λ x. x.number) show.cues
+    → next ≡ length (entries_up_to (λ x. x.number) from show.cues) → to ≡ length show.cues → IsEnd show.cues c first next to end
+    → IfSome (next_decision show from c) (λ e. (n : ℕ) → e ≤ n → level_of sheet n c ≡ tracked show n c) → StandsFrom show c end sheet
+stands_behind {c} {end = end} show sheet from sorted of_next of_to is above k least within =
+    let d : Cue = new_cue 0 in
+    let key : Cue → ℕ = λ x. x.number in
+    let there : end < length show.cues = omega arith in
+    let stops = is.stops (omega (arith, of_to, there)) in
+    let number : (j : ℕ) → j < length show.cues → get_or (cue_numbers show) j 0 ≡ (get_or show.cues j d).number = λ j less.
+    get_or-map key show.cues j d 0 less in
+    let high : from + 1 ≤ (get_or show.cues end d).number = rw (← number end there)
+    (reached (from + 1) (cue_numbers show) end (sorted_numbers key show.cues sorted)
+    (omega (arith, of_next, count_up_to-map key from show.cues, up_to_is_under from (cue_numbers show), stops.least))
+    (omega (arith, there, length-map show.cues key))) in
+    let decided : decides (get_or show.cues end d) c ≡ true =
+    rw (slice_get-get_or show.cues end d there) at stops.decides in
+    rw (number k within) (behind_first (λ x. nat_lt from x.number && decides x c) (λ n. level_of sheet n c ≡ tracked show n c) show.cues end
+    (get_or show.cues k d).number d sorted there (rw (lt_true from (get_or show.cues end d).number (omega (arith, high))) decided)
+    (in_order key show.cues sorted end k d least within)
+    (subst (λ (o : Option Cue). IfSome (option_map key o) (λ e. (n : ℕ) → e ≤ n → level_of sheet n c ≡ tracked show n c))
+    (find_both (λ (x : Cue). nat_lt from x.number) (λ (x : Cue). decides x c) show.cues) above))

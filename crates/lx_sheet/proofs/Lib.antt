@@ -1,6 +1,5 @@
 pub mod Cells
 pub mod BlockReach
-pub mod EditedShows
 pub mod FilledColumns
 pub mod Found
 pub mod LevelsAfter

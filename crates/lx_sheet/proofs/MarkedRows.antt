@@ -104,19 +104,14 @@ marked_in channels order marks n c =
     ∙ map_or_mapped seen (λ (m : CueMarks). slice_index_or (true ∷ m.chans) c true) (entry_at (λ (p : Place). p.cue) n order) true
 
 -- the marks of the cue at a place
-marked_there : (channels : ℕ) (order : List Place) (marks : Marks) (n k c : ℕ) → IsStrictlySorted (λ p. p.cue) order → k < length order
-    → get_or (map (λ p. p.cue) order) k 0 ≡ n
+marked_there : {order : List Place} {n k : ℕ} (channels : ℕ) (marks : Marks) (c : ℕ) → StandsAt (λ p. p.cue) n order k
     → marked_by (marks_of channels order marks) n c ≡ mark_in channels marks (row_at_place order k) c
-marked_there channels order marks n k c sorted within here =
+marked_there {order} {n} {k} channels marks c stands =
     let d : Place = record { cue = 0; row = 0 } in
-    let p : Place = get_or order k d in
-    let is : p ≡ get_or order k p = get_or_default order k d p within in
-    let number : p.cue ≡ n = ap (λ (x : Place). x.cue) is ∙ sym (get_or-map (λ (x : Place). x.cue) order k p 0 within) ∙ here in
-    let stands = stands_where (λ (x : Place). x.cue) n order k p sorted within is number in
     marked_in channels order marks n c
     ∙ ap (λ (o : Option Place). option_map_or (λ x. mark_in channels marks x.row c) o true)
-    (stands.here ∙ slice_get-get_or order k p within ∙ ap Some (sym is))
-    ∙ ap (λ r. mark_in channels marks r c) (sym (row_is order k p within is))
+    (stands.here ∙ slice_get-get_or order k d stands.within)
+    ∙ ap (λ r. mark_in channels marks r c) (sym (get_or-map (λ (x : Place). x.row) order k d 0 stands.within))
 
 -- a channel is in range or past it
 in_or_past : {R : Type 0} (channels c : ℕ) → (1 ≤ c → c ≤ channels → R) → ((1 ≤ c → channels < c) → R) → R
@@ -129,22 +124,22 @@ in_or_past channels c within past = elim (cases_lt channels c) [
 ]
 
 -- the channels that a cue decides are marked at its number where they are in its row
-marked_number : (channels : ℕ) (order : List Place) (marks : Marks) (n k : ℕ) (cue : Cue) → IsStrictlySorted (λ p. p.cue) order
-    → k < length order → get_or (map (λ p. p.cue) order) k 0 ≡ n → IsMarkedFor channels marks (row_at_place order k) cue
-    → (c : ℕ) → decides cue c ≡ true → marked_by (marks_of channels order marks) n c ≡ true
-marked_number channels order marks n k cue sorted within here right c is =
-    marked_there channels order marks n k c sorted within here
+marked_number : {order : List Place} {n k : ℕ} (channels : ℕ) (marks : Marks) (cue : Cue) → StandsAt (λ p. p.cue) n order k
+    → IsMarkedFor channels marks (row_at_place order k) cue → (c : ℕ) → decides cue c ≡ true → marked_by (marks_of channels order marks) n c ≡ true
+marked_number {order} {k = k} channels marks cue stands right c is =
+    marked_there channels marks c stands
     ∙ in_or_past channels c
     (λ least most. mark_in_range channels marks (row_at_place order k) c least most ∙ right c least most is)
     (mark_in_past channels marks (row_at_place order k) c)
 
 same_place : {show : Show} {order : List Place} (k : ℕ) (cue : Cue) → IsOrderOf show order → k < length show.cues → cue ≡ get_or show.cues k cue
-    → (k < length order) × (get_or (map (λ p. p.cue) order) k 0 ≡ cue.number)
-same_place {show} k cue is within here = (
-  omega (arith, within, order_length is),
-  ap (λ (ns : List ℕ). get_or ns k 0) is.numbers ∙ get_or-map (λ (x : Cue). x.number) show.cues k cue 0 within
-      ∙ ap (λ (x : Cue). x.number) (sym here),
-)
+    → StandsAt (λ p. p.cue) cue.number order k
+same_place {show} {order} k cue is within here =
+    let d : Place = record { cue = 0; row = 0 } in
+    let there : k < length order = omega (arith, within, order_length is) in
+    stands_where (λ (p : Place). p.cue) cue.number order k (get_or order k d) is.sorted there (get_or_default order k d (get_or order k d) there)
+    (sym (get_or-map (λ (p : Place). p.cue) order k d 0 there) ∙ ap (λ (ns : List ℕ). get_or ns k 0) is.numbers
+    ∙ get_or-map (λ (x : Cue). x.number) show.cues k cue 0 within ∙ ap (λ (x : Cue). x.number) (sym here))
 
 -- marks that are right in the rows are so at the numbers
 marked_stands : {show : Show} {order : List Place} (channels : ℕ) (levels : List ℕ) (marks : Marks) → IsOrderOf show order
@@ -155,21 +150,19 @@ marked_stands {show} {order} channels levels marks is right n =
     (λ k cue there number.
     let within : k < length show.cues = slice_get_within show.cues k cue there in
     let here : cue ≡ get_or show.cues k cue = sym (get_or_from_slice_get show.cues k cue cue there) in
-    let at = same_place k cue is within here in
-    marked_number channels order marks n k cue is.sorted at.0 (at.1 ∙ number) (right k cue within here))
+    rw (← number) (marked_number channels marks cue (same_place k cue is within here) (right k cue within here)))
 
 -- and the other way
 pub marks_right : {show : Show} {order : List Place} (channels : ℕ) (levels : List ℕ) (marks : Marks) → IsOrderOf show order
     → IsMarked show (sheet_of channels order levels marks) → AreMarked channels order show.cues marks
 marks_right {show} {order} channels levels marks is marked k cue within here c least most decided =
-    let at = same_place k cue is within here in
     let stands = stands_where (λ (x : Cue). x.number) cue.number show.cues k cue is.cues_sorted within here refl in
     let right : (x : ℕ) → decides cue x ≡ true → marked_by (marks_of channels order marks) cue.number x ≡ true =
     subst (λ (o : Option Cue). IfSome o (λ y. (x : ℕ) → decides y x ≡ true
     → marked_by (marks_of channels order marks) cue.number x ≡ true))
     (stands.here ∙ slice_get-get_or show.cues k cue within ∙ ap Some (sym here)) (marked cue.number) in
     sym (mark_in_range channels marks (row_at_place order k) c least most)
-    ∙ sym (marked_there channels order marks cue.number k c is.sorted at.0 at.1) ∙ right c decided
+    ∙ sym (marked_there channels marks c (same_place k cue is within here)) ∙ right c decided
 
 -- Where the marks of one row were written again, those of the other cues are as before.
 pub marked_others : {channels : ℕ} {levels : List ℕ} {order : List Place} {n at : ℕ} (old new : Marks) → IsBlock channels levels order
@@ -193,13 +186,9 @@ marked_others {channels} {order = order} {n} {at} old new block stands same m c 
 
 -- and those of the cue are right, if it is there
 pub marked_anew : {channels : ℕ} {order : List Place} {n at : ℕ} {cue : Cue} (show : Show) (levels : List ℕ) (marks : Marks)
-    → IsStrictlySorted (λ p. p.cue) order → StandsAt (λ p. p.cue) n order at → cue_of show n ≡ Some cue
-    → IsMarkedFor channels marks (row_at_place order at) cue → IsMarkedAt show (sheet_of channels order levels marks) n
-marked_anew {channels} {order} {n} {at} {cue} show levels marks sorted stands found right =
-    let d : Place = record { cue = 0; row = 0 } in
-    let number : get_or (map (λ (p : Place). p.cue) order) at 0 ≡ n =
-    get_or-map (λ (p : Place). p.cue) order at d 0 stands.within ∙ stands_number d stands in
-    rw found (marked_number channels order marks n at cue sorted stands.within number right)
+    → StandsAt (λ p. p.cue) n order at → cue_of show n ≡ Some cue → IsMarkedFor channels marks (row_at_place order at) cue
+    → IsMarkedAt show (sheet_of channels order levels marks) n
+marked_anew {channels} {cue = cue} show levels marks stands found right = rw found (marked_number channels marks cue stands right)
 
 -- a cue without a row is marked
 pub marked_absent : (show : Show) (channels n : ℕ) (order : List Place) (levels : List ℕ) (marks : Marks)

@@ -7,6 +7,7 @@ use Rattle.lx_sheet.proofs.Imports.{entries_up_to, Place, Marks, Sheet, level_by
 use Rattle.lx_sheet.proofs.Imports.{RowsStandFor, StandsFrom, cue_numbers}
 use Rattle.lx_sheet.specs.After.{level_after}
 use Rattle.lx_sheet.proofs.Imports.{cases_eq}
+use Rattle.std.specs.Prelude.{◌⊎◌}
 use Rattle.lx_sheet.proofs.Numbers.{count_up_to, count_within, count_under_within, same_length, sorted_alike, sorted_numbers}
 use Rattle.lx_sheet.proofs.Rows.{up_to_is_front, level_of_block, numbers-rows_of}
 use Rattle.lx_sheet.proofs.LevelsAfter.{level_after-nil}
@@ -34,42 +35,35 @@ count_at (m ∷ ms) (suc k) sorted within =
     let above : m < get_or ms k 0 = All-from_recursion (λ y. m < y) ms sorted.0 k 0 (omega arith) in
     rw (le_true m (get_or ms k 0) (omega (arith, above))) (ap suc (count_at ms k sorted.1 (omega arith)))
 
--- from the place on that this many below it leave, the numbers aren't below it
-reached : (end : ℕ) (numbers : List ℕ) (k : ℕ) → IsStrictlySorted (λ n. n) numbers → count_under end numbers ≤ k → k < length numbers
+none_under : (end m : ℕ) (ms : List ℕ) → AllByRecursion (λ y. m < y) ms → end ≤ m → count_under end ms ≡ 0
+none_under end m ms above high = ap length (filter_none _ ms (each _ _ ms (λ y h. lt_false y end (omega arith)) above))
+
+-- A number at a place is below another exactly if more are than stand before it.
+under : (end : ℕ) (numbers : List ℕ) (k : ℕ) → IsStrictlySorted (λ n. n) numbers → k < length numbers
+    → (get_or numbers k 0 < end) × (k < count_under end numbers) ⊎ (end ≤ get_or numbers k 0) × (count_under end numbers ≤ k)
+under end [] k sorted within = absurd (omega arith)
+under end (m ∷ ms) zero sorted within = elim (cases_lt m end) [
+  | inl low ↦ rw (lt_true m end low) (inl (low, omega arith))
+  | inr high ↦ rw (lt_false m end high) (inr (high, omega (arith, none_under end m ms sorted.0 high)))
+]
+under end (m ∷ ms) (suc k) sorted within = elim (cases_lt m end) [
+  | inl low ↦ rw (lt_true m end low) (elim (under end ms k sorted.1 (omega arith)) [
+    | inl less ↦ inl (less.0, omega (arith, less.1))
+    | inr more ↦ inr (more.0, omega (arith, more.1))
+  ])
+  | inr high ↦ rw (lt_false m end high)
+      (inr (omega (arith, All-from_recursion (λ y. m < y) ms sorted.0 k 0 (omega arith)), omega (arith, none_under end m ms sorted.0 high)))
+]
+
+pub reached : (end : ℕ) (numbers : List ℕ) (k : ℕ) → IsStrictlySorted (λ n. n) numbers → count_under end numbers ≤ k → k < length numbers
     → end ≤ get_or numbers k 0
-reached end [] k sorted least within = absurd (omega arith)
-reached end (m ∷ ms) zero sorted least within =
-    elim (cases_lt m end) [
-      | inl low ↦ absurd (let none : suc (count_under end ms) ≤ 0 = rw (lt_true m end low) at least in omega (arith, none))
-      | inr high ↦ high
-    ]
-reached end (m ∷ ms) (suc k) sorted least within =
-    elim (cases_lt m end) [
-      | inl low ↦ reached end ms k sorted.1 (let less : suc (count_under end ms) ≤ suc k =
-          rw (lt_true m end low) at least in omega (arith, less)) (omega arith)
-      | inr high ↦ omega (arith, high, All-from_recursion (λ y. m < y) ms sorted.0 k 0 (omega arith))
-    ]
+reached end numbers k sorted least within = elim (under end numbers k sorted within) [ inl low ↦ absurd (omega (arith, low.1)) | inr high ↦ high.0 ]
 
--- before that place they are
-pub none_left : (end m : ℕ) (ms : List ℕ) → IsStrictlySorted (λ n. n) (m ∷ ms) → end ≤ m → count_under end ms ≡ 0
-none_left end m ms sorted high = ap length (filter_none _ ms (each _ _ ms (λ y h. lt_false y end (omega arith)) sorted.0))
-
-not_reached : (end : ℕ) (numbers : List ℕ) (k : ℕ) → IsStrictlySorted (λ n. n) numbers → k < count_under end numbers
-    → get_or numbers k 0 < end
-not_reached end [] k sorted less = absurd (omega arith)
-not_reached end (m ∷ ms) zero sorted less =
-    elim (cases_lt m end) [
-      | inl low ↦ low
-      | inr high ↦ absurd (let few : 0 < count_under end ms =
-          rw (lt_false m end high) at less in omega (arith, few, none_left end m ms sorted high))
-    ]
-not_reached end (m ∷ ms) (suc k) sorted less =
-    elim (cases_lt m end) [
-      | inl low ↦ not_reached end ms k sorted.1
-          (let rest : suc k < suc (count_under end ms) = rw (lt_true m end low) at less in omega (arith, rest))
-      | inr high ↦ absurd (let few : suc k < count_under end ms =
-          rw (lt_false m end high) at less in omega (arith, few, none_left end m ms sorted high))
-    ]
+not_reached : (end : ℕ) (numbers : List ℕ) (k : ℕ) → IsStrictlySorted (λ n. n) numbers → k < count_under end numbers → get_or numbers k 0 < end
+not_reached end numbers k sorted less = elim (under end numbers k sorted (omega (arith, count_under_within end numbers))) [
+  | inl low ↦ low.0
+  | inr high ↦ absurd (omega (arith, high.1))
+]
 
 -- an order of a show's cues
 pub record IsOrderOf (show : Show) (order : List Place) : Type 0 where

@@ -26,13 +26,10 @@ loop-place-preserved c =
     let within : place < length cues = omega (arith, c.loop-place-test.true, c.requires.to) in
     let there : place < length order = omega (arith, c.requires.places.places, within) in
     let end : row * width n + n ≤ length c.loop-place.levels =
-    subst (λ r. r * width n + n ≤ length c.loop-place.levels) (sym of_row)
-    (omega (arith, covered_at place c.requires.places.block there)) in
+    rw of_row (omega (arith, covered_at place c.requires.places.block there)) in
     let new = set c.loop-place.levels (row * width n + (c.get.result - 1)) level in
     let here : cue_level n order new place chan ≡ level =
-    ap (λ r. cell n new r chan) (sym of_row)
-    ∙ subst (λ (x : ℕ). cell n new row x ≡ level) is
-    (cell-set_here n c.loop-place.levels row c.get.result level least most (omega arith)) in
+    rw (← of_row, ← is) (cell-set_here n c.loop-place.levels row c.get.result level least most (omega arith)) in
     let others : (k : ℕ) → k ≢ place → k < length order
     → cue_level n order new k chan ≡ cue_level n order c.loop-place.levels k chan = λ k other inside.
     cell-set_other n c.loop-place.levels row (row_at_place order k) c.get.result chan level least most
@@ -52,8 +49,7 @@ loop-place-preserved c =
     λ start. step ∙ ap (tracked_on cue chan) (c.loop-place.invariant.level start)
     ∙ sym (level_after-take cues place cue chan within c.index-cues-place.is) in
     let passes : c.args.sure ≤ place → IfSome (slice_get cues place) (λ x. decides x chan ≡ false) = λ sure.
-    subst (λ (o : Option Cue). IfSome o (λ x. decides x chan ≡ false))
-    (sym (slice_get-get_or cues place cue within ∙ ap Some (sym c.index-cues-place.is)))
+    rw (slice_get-get_or cues place cue within ∙ ap Some (sym c.index-cues-place.is))
     (elim c.if-decides_at.branch [
       | then-decides_at+else-place-sure w ↦ absurd (omega (arith, w.if-place-sure.false, sure))
       | else-decides_at w ↦ sym c.decides_at.ensures ∙ w.if-decides_at.false
@@ -61,19 +57,16 @@ loop-place-preserved c =
     record {
       level = tracks;
       passed = λ k from sure below. elim (cases_eq k place) [
-        | inl e ↦ subst (λ p. IfSome (slice_get cues p) (λ x. decides x chan ≡ false)) (sym e) (passes (omega (arith, e, sure)))
+        | inl e ↦ rw e (passes (omega (arith, e, sure)))
         | inr apart ↦ c.loop-place.invariant.passed k from sure (omega arith)
       ];
       others = λ r x other. cell-set_other n c.loop-place.levels row r c.get.result x level least most
           (λ _ e. other (e ∙ is)) ∙ c.loop-place.invariant.others r x other;
       front = λ k less. others k (λ e. omega arith) (omega arith) ∙ c.loop-place.invariant.front k less;
-      back = λ k more inside. others k (λ e. omega arith) (omega (arith, c.requires.places.places, inside))
-          ∙ c.loop-place.invariant.back k (omega arith) inside;
-      past = λ k more inside. others k (λ e. omega (arith, e, more, c.loop-place-test.true)) (omega (arith, c.requires.places.places, inside))
-          ∙ c.loop-place.invariant.past k more inside;
+      back = λ k more inside. others k (λ e. omega (arith, e, more, c.loop-place-test.true)) (omega (arith, c.requires.places.places, inside))
+          ∙ c.loop-place.invariant.back k (omega (arith, more, c.loop-place-test.true)) inside;
       rows = λ start k from below. elim (cases_eq k place) [
-        | inl e ↦ ap (λ p. cue_level n order new p chan) e ∙ here ∙ tracks start
-            ∙ ap (λ p. level_after (take (p + 1) cues) chan) (sym e)
+        | inl e ↦ rw e (here ∙ tracks start)
         | inr apart ↦ others k apart (omega arith) ∙ c.loop-place.invariant.rows start k from (omega arith)
       ];
     }
@@ -98,12 +91,11 @@ pub bounds-levels-row : goal.bounds-levels-row
 bounds-levels-row c =
     let there : c.loop-place.place < length c.args.order.now = omega (arith, c.loop-place-test.true, c.requires.to, c.requires.places.places) in
     let end : (c.own_row-row.result + 1) * width c.args.channels ≤ length c.args.levels.now =
-    subst (λ r. (r + 1) * width c.args.channels ≤ length c.args.levels.now) (sym c.own_row-row.ensures.row)
-    (covered_at c.loop-place.place c.requires.places.block there) in
+    rw c.own_row-row.ensures.row (covered_at c.loop-place.place c.requires.places.block there) in
     omega (arith, end, c.loop-place.auto.levels, c.get.ensures.value, c.get.ensures.least, c.requires.within)
 
 pub returns-clause-back : goal.returns-clause-back
-returns-clause-back c = c.loop-place.invariant.past
+returns-clause-back c = λ k more. c.loop-place.invariant.back k (omega (arith, more))
 
 pub returns-clause-rows : goal.returns-clause-rows
 returns-clause-rows c = λ start k least less. c.loop-place.invariant.rows start k least (omega (arith, less, c.loop-place-test.false))

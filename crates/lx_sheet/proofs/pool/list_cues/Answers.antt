@@ -1,7 +1,6 @@
 use Rattle.lx_sheet.proofs.Imports.{◌≡◌, ◌+◌, ◌∷◌, [], ◌++◌, ℕ, List, length, take, sym, ap, ◌∙◌, arith, length-take, take_more}
 use Rattle.lx_sheet.proofs.Imports.{Cue, Place, placed_from}
-use Rattle.lx_sheet.proofs.EditedShows.{placed_from-more}
-use Rattle.lx_sheet.proofs.RowPool.{length-placed_from}
+use Rattle.lx_sheet.proofs.ListedRows.{length-placed_from, placed_from-more}
 use Rattle.lx_sheet.proofs.pool.list_cues.Goals as goal
 
 pub push_reserved-requires : goal.push_reserved-requires

@@ -31,7 +31,7 @@ returns-in-Ok-clause-marks c =
     let place : StandsAt (λ p. p.cue) c.args.n c.self.inside.order.items c.in-Ok.place =
     rw (c.get.ensures.value, c.as_slice.ensures.value) at c.in-Ok.ensures.stands in
     let here = rw (c.own_row.ensures.row, c.deref.ensures.value) at c.write.ensures.here in
-    marked_anew c.args.show.now c.self.inside.levels.items c.write.new.self c.self.invariant.kept.sorted place (sym c.in-Some.ensures.cue)
+    marked_anew c.args.show.now c.self.inside.levels.items c.write.new.self place (sym c.in-Some.ensures.cue)
     (λ x least most. here x least (omega (arith, most, c.self.invariant.marked.table.groups)))
 
 pub returns-in_default-index_of-clause-marks : goal.returns-in_default-index_of-clause-marks

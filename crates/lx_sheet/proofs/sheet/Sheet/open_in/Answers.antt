@@ -1,6 +1,5 @@
 use Rattle.lx_sheet.proofs.Imports.{◌≡◌, ◌-◌, List, [], length, ap, arith, rules, CUES, Place}
-use Rattle.lx_sheet.proofs.BlockReach.{block_listed}
-use Rattle.lx_sheet.proofs.RowPool.{listed_pool}
+use Rattle.lx_sheet.proofs.ListedRows.{block_listed, listed_pool}
 use Rattle.lx_sheet.proofs.sheet.Sheet.open_in.Goals as goal
 
 pub invariant_of-sheet : goal.invariant_of-sheet

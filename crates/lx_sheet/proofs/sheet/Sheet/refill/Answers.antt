@@ -1,9 +1,6 @@
 use Rattle.lx_sheet.proofs.Imports.{◌≡◌, ◌-◌, ℕ, List, length, ap, ◌∙◌, arith, length_refill, CUES, Cue, Sheet, placed_from}
-use Rattle.lx_sheet.proofs.BlockReach.{block_listed}
-use Rattle.lx_sheet.proofs.EditedShows.{IsStrictlySorted-placed_from}
-use Rattle.lx_sheet.proofs.ListedRows.{listed_places}
+use Rattle.lx_sheet.proofs.ListedRows.{block_listed, IsStrictlySorted-placed_from, listed_places, listed_pool}
 use Rattle.lx_sheet.proofs.MarkedRows.{marks_reached, stands_of}
-use Rattle.lx_sheet.proofs.RowPool.{listed_pool}
 use Rattle.lx_sheet.proofs.sheet.Sheet.refill.Goals as goal
 
 pub invariant_of-self : goal.invariant_of-self
