@@ -71,21 +71,8 @@ loop-place-preserved c =
       ];
     }
 
-pub level_before-level-requires-clause-cues : goal.level_before-level-requires-clause-cues
-level_before-level-requires-clause-cues c = omega (arith, c.requires.from, c.requires.places.places)
-
-pub level_before-level-requires-clause-within : goal.level_before-level-requires-clause-within
-level_before-level-requires-clause-within c = omega (arith, c.get.ensures.value, c.get.ensures.least, c.requires.within)
-
-pub own_row-row-requires-clause-place : goal.own_row-row-requires-clause-place
-own_row-row-requires-clause-place c = omega (arith, c.loop-place-test.true, c.requires.to, c.requires.places.places)
-
 pub overflow_mul-levels : goal.overflow_mul-levels
 overflow_mul-levels c = omega (arith, within_block c.own_row-row.result c.args.channels c.own_row-row.ensures.within, c.requires.places.block.few)
-
-pub overflow_add-levels : goal.overflow_add-levels
-overflow_add-levels c =
-    omega (arith, within_block c.own_row-row.result c.args.channels c.own_row-row.ensures.within, c.requires.places.block.few, c.get.ensures.most)
 
 pub bounds-levels-row : goal.bounds-levels-row
 bounds-levels-row c =
@@ -93,9 +80,3 @@ bounds-levels-row c =
     let end : (c.own_row-row.result + 1) * width c.args.channels ≤ length c.args.levels.now =
     rw c.own_row-row.ensures.row (covered_at c.loop-place.place c.requires.places.block there) in
     omega (arith, end, c.loop-place.auto.levels, c.get.ensures.value, c.get.ensures.least, c.requires.within)
-
-pub returns-clause-back : goal.returns-clause-back
-returns-clause-back c = λ k more. c.loop-place.invariant.back k (omega (arith, more))
-
-pub returns-clause-rows : goal.returns-clause-rows
-returns-clause-rows c = λ start k least less. c.loop-place.invariant.rows start k least (omega (arith, less, c.loop-place-test.false))

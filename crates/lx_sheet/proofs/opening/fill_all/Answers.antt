@@ -67,15 +67,3 @@ loop-place-preserved c =
             ∙ c.reach-in-loop-place.ensures.same k chan ∙ c.loop-place.invariant.marks k x (omega arith) is chan least most decided
       ];
     }
-
-pub write-requires-clause-few : goal.write-requires-clause-few
-write-requires-clause-few c = omega (arith, c.reach-in-loop-place.ensures.table.groups, c.loop-place.invariant.table.groups, c.requires.table.few)
-
-pub write-requires-clause-reach : goal.write-requires-clause-reach
-write-requires-clause-reach c = c.reach-in-loop-place.ensures.reach c.loop-place.place (omega arith)
-
-pub returns-clause-reach : goal.returns-clause-reach
-returns-clause-reach c = λ r less. c.loop-place.invariant.reach r (omega (arith, less, c.loop-place-test.false))
-
-pub returns-clause-marks : goal.returns-clause-marks
-returns-clause-marks c = λ k cue less. c.loop-place.invariant.marks k cue (omega (arith, less, c.loop-place-test.false))

@@ -18,6 +18,3 @@ index_of-requires c = rw c.as_slice.ensures.value c.requires.sorted
 
 pub returns-in-Ok-clause-stands : goal.returns-in-Ok-clause-stands
 returns-in-Ok-clause-stands c = rw (c.get.ensures.value, c.as_slice.ensures.value) at c.in-Ok.ensures.stands
-
-pub returns-in-Ok-clause-dropped : goal.returns-in-Ok-clause-dropped
-returns-in-Ok-clause-dropped c = c.remove-place.ensures.items

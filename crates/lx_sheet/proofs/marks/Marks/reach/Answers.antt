@@ -27,12 +27,6 @@ returns-else-len-end-clause-reach c = λ row less.
       c.args.self.now.words.ok,
     )
 
-pub words_of-end-requires-clause-rows : goal.words_of-end-requires-clause-rows
-words_of-end-requires-clause-rows c = c.requires.rows
-
-pub words_of-end-requires-clause-groups : goal.words_of-end-requires-clause-groups
-words_of-end-requires-clause-groups c = c.requires.few
-
 pub returns-in-Ok-clause-reach : goal.returns-in-Ok-clause-reach
 returns-in-Ok-clause-reach c = λ row less.
     let rows : ℕ = c.args.rows in
@@ -43,6 +37,3 @@ returns-in-Ok-clause-reach c = λ row less.
       c.in-Ok.ensures.len,
       c.resize.new.self.ok,
     )
-
-pub returns-else-len-end-clause-same : goal.returns-else-len-end-clause-same
-returns-else-len-end-clause-same c = λ row chan. refl

@@ -88,12 +88,6 @@ returns-else-get-self-clause-column c = λ n.
     ∙ sym (tracked_past c.args.show.now n c.args.chan c.cues-cues.ensures.valid
     (omega (arith, ap (λ (s : Sheet). s.channels) c.self.view_is ∙ c.requires.channels, past)))
 
-pub fill_column-requires-clause-to : goal.fill_column-requires-clause-to
-fill_column-requires-clause-to c = omega (arith, c.requires.to, ap length c.cues-cues.ensures.cues)
-
-pub fill_column-requires-clause-within : goal.fill_column-requires-clause-within
-fill_column-requires-clause-within c = omega (arith, c.get-2.ensures.value, c.if-get-self.true)
-
 pub invariant_of-self : goal.invariant_of-self
 invariant_of-self c =
     let filled = ap length (with_items_is c.self.inside.levels c.fill_column.new.levels (omega arith)) in record {
@@ -103,9 +97,3 @@ invariant_of-self c =
       look_room = c.self.invariant.look_room;
       marked = marks_kept c.self.invariant.marked (grown_none c.self.inside.marks) (filled ∙ omega arith);
     }
-
-pub returns-then-get-self-clause-channels : goal.returns-then-get-self-clause-channels
-returns-then-get-self-clause-channels c = ap (λ (s : Sheet). s.channels) c.self.view_is
-
-pub returns-then-get-self-clause-marks : goal.returns-then-get-self-clause-marks
-returns-then-get-self-clause-marks c = ap (λ (s : Sheet). s.marks) c.self.view_is

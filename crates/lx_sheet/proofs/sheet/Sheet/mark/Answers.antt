@@ -10,9 +10,6 @@ index_of-requires c = rw c.as_slice.ensures.value c.self.invariant.kept.sorted
 pub own_row-requires-clause-rows : goal.own_row-requires-clause-rows
 own_row-requires-clause-rows c = rw c.deref.ensures.value c.self.invariant.block.apart
 
-pub own_row-requires-clause-place : goal.own_row-requires-clause-place
-own_row-requires-clause-place c = omega (arith, c.in-Ok.ensures.stands.within, ap length c.as_slice.ensures.value, ap length c.deref.ensures.value)
-
 pub write-requires-clause-reach : goal.write-requires-clause-reach
 write-requires-clause-reach c = c.self.invariant.marked.reached c.own_row.result (rw (c.own_row.ensures.row, c.deref.ensures.value)
     (covered_at c.in-Ok.place c.self.invariant.block (omega (arith, c.in-Ok.ensures.stands.within, ap length c.as_slice.ensures.value))))
@@ -47,12 +44,3 @@ invariant_of-self c = record {
   look_room = c.self.invariant.look_room;
   marked = marks_kept c.self.invariant.marked c.write.ensures.table refl;
 }
-
-pub returns-in-Ok-clause-levels : goal.returns-in-Ok-clause-levels
-returns-in-Ok-clause-levels c = λ m x. ap (λ (s : Sheet). level_of s m x) c.self.view_is
-
-pub returns-in-Ok-clause-numbers : goal.returns-in-Ok-clause-numbers
-returns-in-Ok-clause-numbers c = ap numbers_of c.self.view_is
-
-pub returns-in-Ok-clause-channels : goal.returns-in-Ok-clause-channels
-returns-in-Ok-clause-channels c = ap (λ (s : Sheet). s.channels) c.self.view_is

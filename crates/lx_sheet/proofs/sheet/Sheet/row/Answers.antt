@@ -41,6 +41,3 @@ returns-in-Err-clause-stands c = λ show stands.
 
 pub overflow_mul-start : goal.overflow_mul-start
 overflow_mul-start c = omega (arith, within_block c.own_row-row.result c.self.inside.channels c.own_row-row.ensures.within, c.self.invariant.block.few)
-
-pub overflow_add-result : goal.overflow_add-result
-overflow_add-result c = omega (arith, within_block c.own_row-row.result c.self.inside.channels c.own_row-row.ensures.within, c.self.invariant.block.few)
