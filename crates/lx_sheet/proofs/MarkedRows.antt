@@ -99,9 +99,8 @@ marked_in : (channels : ℕ) (order : List Place) (marks : Marks) (n c : ℕ) �
 unfolding marked_by
 marked_in channels order marks n c =
     let seen : Place → CueMarks = λ p. record { number = p.cue; chans = map (has_mark marks p.row) (range_with_len 1 channels) } in
-    ap (λ (o : Option CueMarks). option_map_or (λ m. slice_index_or (true ∷ m.chans) c true) o true)
-    (find_mapped seen (λ (m : CueMarks). m.number == n) order)
-    ∙ map_or_mapped seen (λ (m : CueMarks). slice_index_or (true ∷ m.chans) c true) (entry_at (λ (p : Place). p.cue) n order) true
+    rw (find_mapped seen (λ (m : CueMarks). m.number == n) order)
+    (map_or_mapped seen (λ (m : CueMarks). slice_index_or (true ∷ m.chans) c true) (entry_at (λ (p : Place). p.cue) n order) true)
 
 -- the marks of the cue at a place
 marked_there : {order : List Place} {n k : ℕ} (channels : ℕ) (marks : Marks) (c : ℕ) → StandsAt (λ p. p.cue) n order k
@@ -109,9 +108,7 @@ marked_there : {order : List Place} {n k : ℕ} (channels : ℕ) (marks : Marks)
 marked_there {order} {n} {k} channels marks c stands =
     let d : Place = record { cue = 0; row = 0 } in
     marked_in channels order marks n c
-    ∙ ap (λ (o : Option Place). option_map_or (λ x. mark_in channels marks x.row c) o true)
-    (stands.here ∙ slice_get-get_or order k d stands.within)
-    ∙ ap (λ r. mark_in channels marks r c) (sym (get_or-map (λ (x : Place). x.row) order k d 0 stands.within))
+    ∙ rw (stands.here ∙ slice_get-get_or order k d stands.within, get_or-map (λ (x : Place). x.row) order k d 0 stands.within) refl
 
 -- a channel is in range or past it
 in_or_past : {R : Type 0} (channels c : ℕ) → (1 ≤ c → c ≤ channels → R) → ((1 ≤ c → channels < c) → R) → R

@@ -17,12 +17,7 @@ pub tracked_is : (show : Show) (n c : ℕ) → IsStrictlySorted (λ cue. cue.num
     → tracked show n c ≡ level_after (take (count_up_to n (cue_numbers show)) show.cues) c
 unfolding level_after
 tracked_is show n c sorted =
-    let p : Cue → Bool = λ cue. nat_le cue.number n in
-    let q : Cue → Bool = λ cue. decides cue c in
-    let found : find (λ cue. p cue && q cue) (reverse show.cues) ≡ find q (reverse (filter p show.cues)) =
-    sym (find_both_last p q show.cues) in
-    ap (λ (o : Option Cue). option_map_or (λ cue. level_in cue c) o 0)
-    (found ∙ ap (λ (xs : List Cue). find q (reverse xs)) (up_to_is_front (λ (cue : Cue). cue.number) n show.cues sorted))
+    rw (← find_both_last (λ (cue : Cue). nat_le cue.number n) (λ (cue : Cue). decides cue c) show.cues, up_to_is_front (λ (cue : Cue). cue.number) n show.cues sorted)
 
 -- up to the number at a place there are that many and one
 count_at : (numbers : List ℕ) (k : ℕ) → IsStrictlySorted (λ n. n) numbers → k < length numbers

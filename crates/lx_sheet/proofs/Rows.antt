@@ -37,14 +37,8 @@ last_of_front {A} f xs (suc k) =
 pub last_up_to : {A : Type 0} (key f : A → ℕ) (n : ℕ) (xs : List A) → IsStrictlySorted key xs
     → option_map_or f (find (λ x. nat_le (key x) n) (reverse xs)) 0
     ≡ last_value (count_up_to n (map key xs)) (λ k. option_map_or f (slice_get xs k) 0)
-last_up_to {A} key f n xs sorted =
-    let found : find (λ x. nat_le (key x) n) (reverse xs) ≡ slice_get (entries_up_to key n xs) (length (entries_up_to key n xs) - 1) =
-    sym (find_last (λ x. nat_le (key x) n) xs) in
-    let front : slice_get (entries_up_to key n xs) (length (entries_up_to key n xs) - 1)
-    ≡ slice_get (take (count_up_to n (map key xs)) xs) (count_up_to n (map key xs) - 1) =
-    ap (λ k. slice_get (entries_up_to key n xs) (k - 1)) (count_up_to-map key n xs)
-    ∙ ap (λ (ys : List A). slice_get ys (count_up_to n (map key xs) - 1)) (up_to_is_front key n xs sorted) in
-    ap (λ (o : Option A). option_map_or f o 0) (found ∙ front) ∙ last_of_front f xs (count_up_to n (map key xs))
+last_up_to key f n xs sorted =
+    rw (← find_last (λ x. nat_le (key x) n) xs, count_up_to-map key n xs, up_to_is_front key n xs sorted) (last_of_front f xs (count_up_to n (map key xs)))
 
 pub numbers-rows_of : (channels : ℕ) (order : List Place) (levels : List ℕ)
     → map (λ r. r.number) (rows_of channels order levels) ≡ map (λ p. p.cue) order
@@ -82,8 +76,7 @@ unfolding level_by
 level_of_block channels order levels n c sorted =
     let numbers : List ℕ = map (λ (p : Place). p.cue) order in
     let within : count_up_to n numbers ≤ length order = omega (arith, count_within n numbers, length-map order (λ (p : Place). p.cue)) in
-    let at : ℕ → ℕ = λ k. option_map_or (λ (r : Row). level_in_row r c) (slice_get (rows_of channels order levels) k) 0 in
     last_up_to (λ (r : Row). r.number) (λ (r : Row). level_in_row r c) n (rows_of channels order levels)
     (IsStrictlySorted-rows_of channels order levels sorted)
-    ∙ ap (λ (ns : List ℕ). last_value (count_up_to n ns) at) (numbers-rows_of channels order levels)
-    ∙ last_value_same (count_up_to n numbers) _ _ (λ k less. level_at_place channels order levels k c (omega (arith, within, less)))
+    ∙ rw (numbers-rows_of channels order levels)
+    (last_value_same (count_up_to n numbers) _ _ (λ k less. level_at_place channels order levels k c (omega (arith, within, less))))

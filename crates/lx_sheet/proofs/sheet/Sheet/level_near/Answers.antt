@@ -28,9 +28,7 @@ returns-clause-level c =
     let channels : ℕ = c.self.inside.channels in
     let cues : ℕ = c.count_near-cues.result in
     let rows : cues ≡ count_up_to c.args.n (map (λ (p : Place). p.cue) order) =
-    c.count_near-cues.ensures
-    ∙ ap (λ (xs : List Place). length (entries_up_to (λ p. p.cue) c.args.n xs)) c.as_slice-order.ensures.value
-    ∙ count_up_to-map (λ (p : Place). p.cue) c.args.n order in
+    (rw c.as_slice-order.ensures.value at c.count_near-cues.ensures) ∙ count_up_to-map (λ (p : Place). p.cue) c.args.n order in
     let chan : c.get.result - 1 + 1 ≡ c.args.c = omega (arith, c.get.ensures.value, c.get.ensures.least) in
     c.level_before.ensures
     ∙ rw (chan, c.as_slice-order.ensures.value, c.as_slice.ensures.value, rows) refl

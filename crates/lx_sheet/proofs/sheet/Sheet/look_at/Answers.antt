@@ -6,19 +6,12 @@ use Rattle.lx_sheet.proofs.Found.{look_found, look_none}
 use Rattle.lx_sheet.proofs.Numbers.{count_up_to, count_up_to-map}
 use Rattle.lx_sheet.proofs.sheet.Sheet.look_at.Goals as goal
 
--- how many cues are up to the number, counted in the order that is lent
-counted : (n count : ℕ) (lent order : List Place) → count ≡ length (entries_up_to (λ p. p.cue) n lent) → lent ≡ order
-    → count ≡ count_up_to n (map (λ p. p.cue) order)
-counted n count lent order is same = is ∙ ap (λ (xs : List Place). length (entries_up_to (λ p. p.cue) n xs)) same
-    ∙ count_up_to-map (λ (p : Place). p.cue) n order
-
 pub returns-then-cues-eq0-clause-none : goal.returns-then-cues-eq0-clause-none
 returns-then-cues-eq0-clause-none c = λ none chan.
     let order : List Place = c.self.inside.order.items in
     sym (ap (λ (s : Sheet). level_of s c.args.n chan) c.self.view_is)
     ∙ look_none c.self.inside.channels order c.self.inside.levels.items c.args.n chan c.self.invariant.kept.sorted
-    (sym (counted c.args.n c.count_near-cues.result c.as_slice-order.result.now order c.count_near-cues.ensures
-    c.as_slice-order.ensures.value)
+    (sym ((rw c.as_slice-order.ensures.value at c.count_near-cues.ensures) ∙ count_up_to-map (λ (p : Place). p.cue) c.args.n order)
     ∙ c.if-cues-eq0.true)
 
 pub own_row-last-requires-clause-place : goal.own_row-last-requires-clause-place
@@ -57,7 +50,7 @@ returns-clause-levels c = λ k less.
     let channels : ℕ = c.self.inside.channels in
     let cues : ℕ = c.count_near-cues.result in
     let count : cues ≡ count_up_to c.args.n (map (λ (p : Place). p.cue) order) =
-    counted c.args.n cues c.as_slice-order.result.now order c.count_near-cues.ensures c.as_slice-order.ensures.value in
+    (rw c.as_slice-order.ensures.value at c.count_near-cues.ensures) ∙ count_up_to-map (λ (p : Place). p.cue) c.args.n order in
     let long : k < channels = omega (arith, less, ap (λ (s : Sheet). s.channels) c.self.view_is) in
     rw (width_of c.own_row-last.result channels, c.deref.ensures.value, c.own_row-last.ensures.row, c.as_slice-order.ensures.value, count)
     (look_found channels order levels c.args.n k c.self.invariant.kept.sorted long (λ none. c.if-cues-eq0.false (count ∙ none)))
