@@ -253,18 +253,17 @@ pub record IsRemarked (channels : ℕ) (order : List Place) (cues : List Cue) (w
       → IsMarkedFor channels marks (row_at_place order k) cue
 
 -- so they are where those of one row were written again, for its cue
-pub remarked : {channels : ℕ} {levels : List ℕ} {order : List Place} {at row : ℕ} {cues : List Cue} {cue : Cue} {was marks : Marks}
-    → IsBlock channels levels order → at < length order → row ≡ row_at_place order at → cue ≡ get_or cues at cue
-    → IsMarkedFor channels marks row cue
-    → ((r c : ℕ) → r ≢ row → 1 ≤ c → c ≤ channels → has_mark marks r c ≡ has_mark was r c)
+pub remarked : {channels : ℕ} {levels : List ℕ} {order : List Place} {at row : ℕ} {cues : List Cue} {cue : Cue} {was marks : Marks} {most : ℕ}
+    → IsBlock channels levels order → at < length order → row ≡ row_at_place order at → cue ≡ get_or cues at cue → channels ≤ most
+    → IsMarkedFor most marks row cue → ((r c : ℕ) → r ≢ row → 1 ≤ c → c ≤ most → has_mark marks r c ≡ has_mark was r c)
     → IsRemarked channels order cues was marks at (at + 1)
-remarked {channels} {order = order} {at} {cues = cues} {cue} {marks = marks} block there row_is is right same = record {
-  kept = λ k c other within. same (row_at_place order k) c (λ e. rows_differ k at block within there
-      (λ here. absurd (omega (arith, here, other (omega arith)))) (e ∙ row_is));
+remarked {channels} {order = order} {at} {cues = cues} {cue} {marks = marks} block there row_is is wide right same = record {
+  kept = λ k c other within least most. same (row_at_place order k) c (λ e. rows_differ k at block within there
+      (λ here. absurd (omega (arith, here, other (omega arith)))) (e ∙ row_is)) least (omega (arith, most, wide));
   came = λ k x least less within x_is.
       let here : k ≡ at = omega arith in
       let one : x ≡ cue = x_is ∙ get_or_default cues k x cue within ∙ ap (λ i. get_or cues i cue) here ∙ sym is in
-      rw (here, one, ← row_is) right;
+      rw (here, one, ← row_is) (λ c least most. right c least (omega (arith, most, wide)));
 }
 
 pub unmarked : {channels at : ℕ} {order : List Place} {cues : List Cue} {marks : Marks} → IsRemarked channels order cues marks marks at at

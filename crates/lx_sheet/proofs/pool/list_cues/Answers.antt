@@ -26,10 +26,7 @@ loop-row-preserved c =
     record {
       order =
           c.push_reserved.ensures.items
-          ∙ ap (λ (ps : List Place). ps ++ record { cue = c.cue.inside.number; row = row } ∷ []) c.loop-row.invariant.order
-          ∙ ap (λ (n : ℕ). placed_from 0 (take row cues) ++ record { cue = n; row = row } ∷ []) number
-          ∙ ap (λ (r : ℕ). placed_from 0 (take row cues) ++ record { cue = cue.number; row = r } ∷ []) at
-          ∙ sym (placed_from-more 0 (take row cues) cue)
-          ∙ sym (ap (placed_from 0) more);
+          ∙ rw (c.loop-row.invariant.order, number, more, placed_from-more 0 (take row cues) cue)
+          (ap (λ (r : ℕ). placed_from 0 (take row cues) ++ record { cue = cue.number; row = r } ∷ []) at);
       room = omega (arith, c.push_reserved.ensures.capacity, c.loop-row.invariant.room);
     }

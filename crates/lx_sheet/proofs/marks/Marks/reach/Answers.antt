@@ -10,11 +10,8 @@ unfolding has_mark
 returns-in-Ok-clause-same c = λ row chan.
     let old : List ℕ = c.args.self.now.words.items in
     let more : ℕ = c.words_of-end.result - vec_len c.args.self.now.words in
-    let whole : take c.words_of-end.result old ≡ old = take_all c.words_of-end.result old (omega (arith, c.args.self.now.words.ok)) in
-    let longer : c.resize.new.self.items ≡ old ++ replicate more 0 = c.in-Ok.ensures.items
-    ∙ ap (λ (xs : List ℕ). xs ++ replicate more 0) whole in
-    let at : ℕ = word_place c.args.self.now.groups row (group_of chan) in
-    ap (λ w. bit_at w (bit_of chan) == 1) (ap (λ (xs : List ℕ). get_or xs at 0) longer ∙ grown old more at)
+    rw (c.in-Ok.ensures.items, take_all c.words_of-end.result old (omega (arith, c.args.self.now.words.ok)))
+    (ap (λ w. bit_at w (bit_of chan) == 1) (grown old more (word_place c.args.self.now.groups row (group_of chan))))
 
 pub returns-else-len-end-clause-reach : goal.returns-else-len-end-clause-reach
 returns-else-len-end-clause-reach c = λ row less.

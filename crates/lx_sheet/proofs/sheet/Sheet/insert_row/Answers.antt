@@ -61,23 +61,21 @@ returns-then-len-cues c = λ before cue stands number absent now.
     ) at c.fill_inserted.ensures) (passed s stood) in
     let block = block_inserted at c.args.n c.self.invariant.block c.add_place.ensures.kept.pool c.in-Some.ensures.added c.deref.ensures.value
     c.own_row-row.ensures.row c.reach.ensures.length in
-    let wide : channels ≤ 64 * c.reach-in-Some.new.self.groups =
-    omega (arith, c.self.invariant.marked.table.groups, c.reach-in-Some.ensures.table.groups) in
     rw (with_items_is c.reach.new.levels filled (omega arith))
     (stands_of (places_shifted s stood fills
     (remarked block (omega (arith, order_length s.now, s.cues.long, order_length stood.is, c.in-Some.ensures.goes.within))
     (c.own_row-row.ensures.row ∙ ap (λ (xs : List Place). row_at_place xs at) c.deref.ensures.value)
-    (rw c.cues-cues.ensures.cues at c.index-cues-at.is) (λ x least most. c.write.ensures.here x least (omega (arith, most, wide)))
-    (λ r x apart least most. c.write.ensures.others r x apart least (omega (arith, most, wide)) ∙ c.reach-in-Some.ensures.same r x))
+    (rw c.cues-cues.ensures.cues at c.index-cues-at.is)
+    (omega (arith, c.self.invariant.marked.table.groups, c.reach-in-Some.ensures.table.groups)) c.write.ensures.here
+    (λ r x apart least most. c.write.ensures.others r x apart least most ∙ c.reach-in-Some.ensures.same r x))
     (ap (λ (s : Sheet). s.channels) c.self.view_is ∙ c.requires)))
 
 pub returns-else-len-cues : goal.returns-else-len-cues
 returns-else-len-cues c = λ before cue stands number absent now.
     let was : AtPlaces before c.self.inside.channels c.self.inside.order.items c.self.inside.levels.items c.self.inside.marks =
     at_places c.self.invariant.kept.sorted (rw c.self.view_is stands) in
-    let s : IsShifted before c.args.show.now c.self.inside.order.items c.add_place.new.order.items c.in-Some.at c.in-Some.at (c.in-Some.at + 1) =
-    came _ cue was c.add_place.ensures.kept.sorted c.cues-cues.ensures.valid.cues_sorted c.in-Some.ensures.goes c.in-Some.ensures.added number now in
-    absurd (c.if-len-cues.false (omega (arith, c.add_place.new.order.ok, order_length s.now, ap length c.cues-cues.ensures.cues)))
+    let more = ap length c.in-Some.ensures.added ∙ length-insert c.self.inside.order.items c.in-Some.at _ c.in-Some.ensures.goes.within in
+    absurd (c.if-len-cues.false (omega (arith, c.add_place.new.order.ok, one_more cue was.is number absent now, more, ap length c.cues-cues.ensures.cues)))
 
 pub returns-in_default : goal.returns-in_default
 returns-in_default c = λ before cue stands number absent now.

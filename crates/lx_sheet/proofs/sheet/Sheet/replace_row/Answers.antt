@@ -55,13 +55,12 @@ returns-then-order-cues c = λ before cue stands number there now.
       c.cues-cues.ensures.cues,
       c.deref_mut.ensures.value,
     ) at c.fill_from.ensures in
-    let wide : channels ≤ 64 * c.self.inside.marks.groups = c.self.invariant.marked.table.groups in
     rw (with_items_is c.self.inside.levels filled (omega arith))
     (stands_of (places_shifted s stood fills
     (remarked c.self.invariant.block place.within
     (c.own_row.ensures.row ∙ ap (λ (xs : List Place). row_at_place xs at) c.as_slice-order.ensures.value)
-    (rw c.cues-cues.ensures.cues at c.index-cues-place.is) (λ x least most. c.write.ensures.here x least (omega (arith, most, wide)))
-    (λ r x apart least most. c.write.ensures.others r x apart least (omega (arith, most, wide))))
+    (rw c.cues-cues.ensures.cues at c.index-cues-place.is)
+    c.self.invariant.marked.table.groups c.write.ensures.here c.write.ensures.others)
     (ap (λ (s : Sheet). s.channels) c.self.view_is ∙ c.requires)))
 
 pub returns-else-order-cues : goal.returns-else-order-cues
