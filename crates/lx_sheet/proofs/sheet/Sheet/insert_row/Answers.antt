@@ -113,13 +113,7 @@ invariant_of-self-else-len-cues c = record {
 }
 
 pub invariant_of-self-in_default : goal.invariant_of-self-in_default
-invariant_of-self-in_default c = record {
-  kept = c.add_place.ensures.kept;
-  block = rw (c.add_place.ensures.same c.in_default.is) c.self.invariant.block;
-  level_room = c.self.invariant.level_room;
-  look_room = c.self.invariant.look_room;
-  marked = c.self.invariant.marked;
-}
+invariant_of-self-in_default c = assumption (c.self.invariant, c.add_place.ensures.kept, rw (← c.add_place.ensures.same c.in_default.is) at c.self.invariant.block)
 
 pub bounds-cues-at : goal.bounds-cues-at
 bounds-cues-at c = omega (

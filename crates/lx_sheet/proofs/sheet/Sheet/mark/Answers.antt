@@ -37,10 +37,4 @@ returns-in_default-index_of-clause-marks c = rw (← c.self.view_is) (marked_abs
     (rw (c.get.ensures.value, c.as_slice.ensures.value) at c.in_default-index_of.ensures.goes.absent))
 
 pub invariant_of-self : goal.invariant_of-self
-invariant_of-self c = record {
-  kept = c.self.invariant.kept;
-  block = c.self.invariant.block;
-  level_room = c.self.invariant.level_room;
-  look_room = c.self.invariant.look_room;
-  marked = marks_kept c.self.invariant.marked c.write.ensures.table refl;
-}
+invariant_of-self c = assumption (c.self.invariant, marks_kept c.self.invariant.marked c.write.ensures.table refl)

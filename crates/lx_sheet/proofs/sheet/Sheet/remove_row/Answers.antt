@@ -90,20 +90,8 @@ invariant_of-self c =
     }
 
 pub invariant_of-self-else-len-cues : goal.invariant_of-self-else-len-cues
-invariant_of-self-else-len-cues c = record {
-  kept = c.drop_place.ensures.kept;
-  block = block_removed c.in-Some.freed.at c.self.invariant.block c.drop_place.ensures.kept.pool c.in-Some.ensures.dropped
-      c.in-Some.ensures.stands.within;
-  level_room = c.self.invariant.level_room;
-  look_room = c.self.invariant.look_room;
-  marked = c.self.invariant.marked;
-}
+invariant_of-self-else-len-cues c = assumption (c.self.invariant, c.drop_place.ensures.kept,
+    block_removed c.in-Some.freed.at c.self.invariant.block c.drop_place.ensures.kept.pool c.in-Some.ensures.dropped c.in-Some.ensures.stands.within)
 
 pub invariant_of-self-in_default : goal.invariant_of-self-in_default
-invariant_of-self-in_default c = record {
-  kept = c.drop_place.ensures.kept;
-  block = rw (c.drop_place.ensures.none c.in_default.is) c.self.invariant.block;
-  level_room = c.self.invariant.level_room;
-  look_room = c.self.invariant.look_room;
-  marked = c.self.invariant.marked;
-}
+invariant_of-self-in_default c = assumption (c.self.invariant, c.drop_place.ensures.kept, rw (← c.drop_place.ensures.none c.in_default.is) at c.self.invariant.block)
