@@ -1,9 +1,9 @@
 -- The block reaches over the cues' own rows, whatever comes or goes, and what it grows by is at 0.
-use Rattle.lx_sheet.proofs.Imports.{◌≡◌, ℕ, zero, suc, ◌+◌, ◌-◌, ◌*◌, ◌<◌, ◌≤◌, List, ◌∷◌, ◌++◌, length, get_or, map}
-use Rattle.lx_sheet.proofs.Imports.{refl, ◌∙◌, sym, ap, subst, inl, inr, arith, insert, remove, replicate, All, range_with_len, mul-le-mul_right}
+use Rattle.lx_sheet.proofs.Imports.{◌≡◌, ℕ, zero, suc, ◌+◌, ◌-◌, ◌*◌, ◌<◌, ◌≤◌, List, ◌∷◌, ◌++◌, length, get_or}
+use Rattle.lx_sheet.proofs.Imports.{refl, ◌∙◌, sym, ap, subst, inl, inr, arith, insert, remove, replicate, All}
 use Rattle.lx_sheet.proofs.Imports.{cases_lt, length-map, length-replicate, get_or-replicate, get_or-append_right, get_or_append_left, get_or_past}
-use Rattle.lx_sheet.proofs.Imports.{get_or_default, length-range_with_len, get_or-range_with_len, IsPermutation-insert, IsPermutation-remove, All-permutation}
-use Rattle.lx_sheet.proofs.Imports.{Cue, Place, IsBlock, IsPool, CHANNELS, max, cell, own_rows, placed_from, row_at_place, width}
+use Rattle.lx_sheet.proofs.Imports.{get_or_default, IsPermutation-insert, IsPermutation-remove, All-permutation}
+use Rattle.lx_sheet.proofs.Imports.{Place, IsBlock, IsPool, max, cell, own_rows, row_at_place, width}
 use Rattle.lx_sheet.proofs.Cells.{cell_is, cell_past, cell_zero}
 use Rattle.std.proofs.lemmas.List.Elements.{All-cons}
 use Rattle.lx_sheet.proofs.RowPool.{own_apart, own-insert, own-remove}

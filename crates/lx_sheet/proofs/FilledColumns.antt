@@ -1,14 +1,14 @@
 -- A column that was filled in from a cue on stands for the show.
-use Rattle.lx_sheet.proofs.Imports.{◌≡◌, ℕ, zero, suc, ◌+◌, ◌<◌, ◌≤◌, ◌&&◌, Bool, true, false, List, [], ◌∷◌, length, get_or, map, take, refl}
-use Rattle.lx_sheet.proofs.Imports.{◌∙◌, sym, ap, subst, arith, inl, inr, Option, Some, None, IfSome, filter, find, option_map, slice_get, IsSomeAnd}
+use Rattle.lx_sheet.proofs.Imports.{◌≡◌, ℕ, zero, suc, ◌+◌, ◌<◌, ◌≤◌, ◌&&◌, Bool, true, List, [], ◌∷◌, length, get_or, take}
+use Rattle.lx_sheet.proofs.Imports.{◌∙◌, subst, arith, inl, inr, Option, IfSome, filter, find, option_map}
 use Rattle.lx_sheet.proofs.Imports.{nat_le, nat_lt, cases_lt, length-map, get_or-map, slice_get-get_or, All-from_recursion, IsStrictlySorted, Cue, Show, new_cue}
 use Rattle.lx_sheet.proofs.Imports.{decides, tracked, lt_true, entries_up_to, Place, Sheet, level_by, level_of, rows_of, cue_level, last_value}
-use Rattle.lx_sheet.proofs.Imports.{count_under, level_after, IsDecision, IsEnd, IsRight, StandsFrom, cue_numbers, next_decision}
+use Rattle.lx_sheet.proofs.Imports.{count_under, level_after, IsEnd, IsRight, StandsFrom, cue_numbers, next_decision}
 use Rattle.std.proofs.lemmas.Bool.{cases_Bool}
 use Rattle.std.proofs.lemmas.Bool.Decides.{nat_tests}
 use Rattle.lx_spec.proofs.Lists.{find_both}
 use Rattle.lx_spec.proofs.SortedLists.{in_order}
-use Rattle.lx_sheet.proofs.Numbers.{count_under-map, count_up_to, count_up_to-map, sorted_numbers}
+use Rattle.lx_sheet.proofs.Numbers.{count_up_to, count_up_to-map, sorted_numbers}
 use Rattle.lx_sheet.proofs.RightRows.{IsOrderOf, column_right, last_right, reached, right_at, right_below}
 
 -- The channel's column was filled in from a place up to another: the rows from there on and those before are as they were, and the others

@@ -1,6 +1,6 @@
 -- The row of a number, as it stands in the block, and what it is where the sheet stands for a show.
-use Rattle.lx_sheet.proofs.Imports.{◌≡◌, ◌≢◌, ℕ, zero, suc, ◌+◌, ◌-◌, ◌*◌, ◌<◌, ◌≤◌, true, false, List, [], ◌∷◌}
-use Rattle.lx_sheet.proofs.Imports.{length, get_or, take, drop, map, Some, None, refl, ◌∙◌, sym, ap, subst, arith, Option, is_some, option_map, slice_get}
+use Rattle.lx_sheet.proofs.Imports.{◌≡◌, ◌≢◌, ℕ, suc, ◌+◌, ◌-◌, ◌*◌, ◌<◌, true, List}
+use Rattle.lx_sheet.proofs.Imports.{length, get_or, take, drop, map, Some, None, refl, ◌∙◌, sym, ap, arith, Option, is_some, option_map}
 use Rattle.lx_sheet.proofs.Imports.{◌==◌, false≢true, length-take, length-drop, same_lists, get_or-map, get_or_default, length-map-range_with_len}
 use Rattle.lx_sheet.proofs.Imports.{get_or-map-range_with_len, slice_get-get_or, IsStrictlySorted, entry_at, StandsAt, Cue, Show, cue_of, find_mapped}
 use Rattle.lx_sheet.proofs.Imports.{tracked, row_of, up_to_there, Place, Marks, Row, level_by, IsBlock, row_at_place, rows_of, cue_level, last_value, width}

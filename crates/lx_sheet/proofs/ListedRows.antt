@@ -2,7 +2,7 @@
 use Rattle.lx_sheet.proofs.Imports.{◌≡◌, ℕ, suc, ◌+◌, ◌*◌, ◌<◌, ◌≤◌, List, [], ◌∷◌, ◌++◌, length, get_or, map, take, reverse, refl, ◌∙◌, sym, ap, subst}
 use Rattle.lx_sheet.proofs.Imports.{arith, range_with_len, length-range_with_len, get_or-range_with_len, mul-le-mul_right, IsPermutation-append_right}
 use Rattle.lx_sheet.proofs.Imports.{IsPermutation-reverse, Cue, Show, IsStrictlySorted, Marks, Place, CHANNELS, CUES, cell, own_rows, placed_from, width}
-use Rattle.lx_sheet.proofs.Imports.{row_at_place, AreApart, IsBlock, IsMarkedFor, IsPool, level_after}
+use Rattle.lx_sheet.proofs.Imports.{row_at_place, IsBlock, IsMarkedFor, IsPool, level_after}
 use Rattle.lx_sheet.proofs.MarkedRows.{AtPlaces}
 use Rattle.lx_sheet.proofs.Numbers.{sorted_alike, same_length}
 use Rattle.lx_sheet.proofs.RowPool.{own_apart, pool_moved, range_append, range_apart}

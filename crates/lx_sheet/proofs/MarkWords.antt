@@ -1,6 +1,6 @@
 -- The words of marks, each at its place, and the bits that are set in them.
 use Rattle.lx_sheet.proofs.Imports.{◌≡◌, ℕ, suc, zero, ◌+◌, ◌*◌, ◌/◌, ◌%◌, ◌<◌, ◌≤◌, true, List, [], ◌∷◌, length}
-use Rattle.lx_sheet.proofs.Imports.{get_or, set, ◌∙◌, sym, ap, subst, inl, inr, arith, bit_or, bit_at, cases_eq, false≢true, get_or-map}
+use Rattle.lx_sheet.proofs.Imports.{get_or, set, ap, subst, inl, inr, arith, bit_or, bit_at, cases_eq, false≢true, get_or-map}
 use Rattle.lx_sheet.proofs.Imports.{get_or-set_same, get_or-set_other, length-map, All, All-from_recursion, All-map, bit_at_or, bit_at-lt, Move, InRange}
 use Rattle.lx_sheet.proofs.Imports.{IsStrictlySorted, has_entry, eq_other, bit_of, chan_at, group_of, row_bit, word_place}
 use Rattle.std.proofs.lemmas.Nat.{same_from_place}

@@ -4,7 +4,7 @@ use Rattle.lx_sheet.proofs.Imports.{length, get_or, map, max, Some, None, refl, 
 use Rattle.lx_sheet.proofs.Imports.{slice_index_or, option_map_or, range_with_len, mul-le-mul_right, cases_eq, cases_lt, get_or_default, get_or-map}
 use Rattle.lx_sheet.proofs.Imports.{get_or_past, All-from_recursion, get_or-map-range_with_len, length-map-range_with_len, slice_get-get_or, slice_get_within}
 use Rattle.lx_sheet.proofs.Imports.{get_or_from_slice_get, IsStrictlySorted, entry_at, Cue, InRange, Show, ValidCue, cue_of, decides, eq_other, eq_true, each}
-use Rattle.lx_sheet.proofs.Imports.{find_mapped, map_or_mapped, StandsAt, stands_where, Marks, Place, CueMarks, AreApart, AreMarked, Covers, marks_of, own_rows}
+use Rattle.lx_sheet.proofs.Imports.{find_mapped, map_or_mapped, StandsAt, stands_where, Marks, Place, CueMarks, AreMarked, marks_of}
 use Rattle.lx_sheet.proofs.Imports.{row_at_place, width, IsGrown, IsMarkTable, IsMarkedFor, IsReached, Tells, has_mark, MovesWithin, IsRight, IsMarked}
 use Rattle.lx_sheet.proofs.Imports.{HoldsMarks, IsBlock, cell, cue_numbers}
 use Rattle.lx_sheet.proofs.Imports.{IsMarkedAt, RowsStandFor}

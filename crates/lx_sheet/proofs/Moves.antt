@@ -1,6 +1,6 @@
 -- The moves of a cue placed one after another.
-use Rattle.lx_sheet.proofs.Imports.{◌≡◌, ◌≢◌, ℕ, zero, suc, ◌+◌, ◌-◌, ◌<◌, ◌≤◌, Bool, List, [], ◌∷◌, length, get_or, set}
-use Rattle.lx_sheet.proofs.Imports.{drop, Some, ◌∙◌, sym, ap, inl, inr, arith, subst, Option, cond, AllByRecursion, option_map_or, cases_eq, drop_more}
+use Rattle.lx_sheet.proofs.Imports.{◌≡◌, ℕ, zero, suc, ◌+◌, ◌-◌, ◌<◌, ◌≤◌, List, [], ◌∷◌, length, get_or, set}
+use Rattle.lx_sheet.proofs.Imports.{drop, ◌∙◌, sym, ap, inl, inr, arith, subst, AllByRecursion, option_map_or, cases_eq, drop_more}
 use Rattle.lx_sheet.proofs.Imports.{Move, InRange, IsStrictlySorted, entry_at, level_in_look, eq_above, eq_other, eq_true, each, find_none}
 use Rattle.lx_sheet.proofs.Imports.{IsStrictlySorted-drop}
 use Rattle.lx_sheet.proofs.Cells.{level_in_look-set, level_in_look-other}

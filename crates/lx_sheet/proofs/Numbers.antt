@@ -1,5 +1,5 @@
 -- Lists with the same numbers.
-use Rattle.lx_sheet.proofs.Imports.{◌≡◌, ℕ, ◌<◌, ◌≤◌, Bool, true, false, cond, List, [], ◌∷◌, length, map, filter, find, Some, None, refl, ◌∙◌, sym, ap}
+use Rattle.lx_sheet.proofs.Imports.{◌≡◌, ℕ, ◌<◌, ◌≤◌, Bool, true, false, cond, List, [], ◌∷◌, length, map, filter, Some, None, refl, ◌∙◌, sym, ap}
 use Rattle.lx_sheet.proofs.Imports.{Option, is_some, option_map, nat_le, nat_lt, ◌==◌, AllByRecursion, false≢true, length-map, find_mapped, shorter}
 use Rattle.lx_sheet.proofs.Imports.{IsStrictlySorted, entry_at, entries_below, entries_above, entries_up_to, count_under}
 

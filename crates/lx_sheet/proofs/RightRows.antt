@@ -1,10 +1,10 @@
 -- Rows that hold the levels after the cues up to theirs, and the columns of a sheet that stands for a show.
-use Rattle.lx_sheet.proofs.Imports.{◌≡◌, ℕ, zero, suc, ◌+◌, ◌<◌, ◌≤◌, Bool, true, false, cond, List, [], ◌∷◌, length, get_or, take}
-use Rattle.lx_sheet.proofs.Imports.{map, refl, ◌∙◌, sym, ap, subst, arith, inl, inr, Option, Some, None, IfSome, filter, find, reverse, nat_le, nat_lt}
-use Rattle.lx_sheet.proofs.Imports.{◌&&◌, option_map_or, AllByRecursion, cases_lt, length-map, All-from_recursion, IsStrictlySorted, entries_below, Cue}
-use Rattle.lx_sheet.proofs.Imports.{Show, decides, level_in, tracked, le_false, le_true, lt_false, lt_true, each, filter_none, find_both_last, shorter}
-use Rattle.lx_sheet.proofs.Imports.{entries_up_to, Place, Marks, Sheet, level_by, level_of, rows_of, cue_level, last_value, count_under, IsRight, RowsFollow}
-use Rattle.lx_sheet.proofs.Imports.{RowsStandFor, StandsFrom, cue_numbers}
+use Rattle.lx_sheet.proofs.Imports.{◌≡◌, ℕ, zero, suc, ◌+◌, ◌<◌, ◌≤◌, List, [], ◌∷◌, length, get_or, take}
+use Rattle.lx_sheet.proofs.Imports.{map, ◌∙◌, sym, ap, subst, arith, inl, inr, Option, Some, None, IfSome, nat_le}
+use Rattle.lx_sheet.proofs.Imports.{option_map_or, AllByRecursion, cases_lt, length-map, All-from_recursion, IsStrictlySorted, Cue}
+use Rattle.lx_sheet.proofs.Imports.{Show, decides, tracked, le_false, le_true, lt_false, lt_true, each, filter_none, find_both_last}
+use Rattle.lx_sheet.proofs.Imports.{entries_up_to, Place, Sheet, level_by, level_of, rows_of, cue_level, last_value, count_under, IsRight, RowsFollow}
+use Rattle.lx_sheet.proofs.Imports.{StandsFrom, cue_numbers}
 use Rattle.lx_sheet.specs.After.{level_after}
 use Rattle.lx_sheet.proofs.Imports.{cases_eq}
 use Rattle.std.specs.Prelude.{◌⊎◌}

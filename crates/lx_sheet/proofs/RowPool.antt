@@ -1,11 +1,11 @@
 -- The cues' own rows and the free ones: apart, and together all rows of the block, whatever comes or goes.
 use Rattle.lx_sheet.proofs.Imports.{◌≡◌, ◌≢◌, ℕ, zero, suc, ◌+◌, ◌<◌, ◌≤◌, false, List, [], ◌∷◌, ◌++◌, length, get_or}
-use Rattle.lx_sheet.proofs.Imports.{take, drop, refl, ◌∙◌, sym, ap, subst, inl, inr, arith, insert, remove, reverse, ◌==◌, range_with_len}
+use Rattle.lx_sheet.proofs.Imports.{take, drop, ◌∙◌, sym, ap, subst, inl, inr, arith, insert, remove, ◌==◌, range_with_len}
 use Rattle.lx_sheet.proofs.Imports.{cases_order, false≢true, append_assoc, map-append, take-map, drop-map, length-map, length-append, get_or-map}
 use Rattle.lx_sheet.proofs.Imports.{get_or_append_left, length-range_with_len, get_or-range_with_len, IsPermutation-sym, IsPermutation-trans}
 use Rattle.lx_sheet.proofs.Imports.{IsPermutation-to_front, IsPermutation-append_left, IsPermutation-insert}
-use Rattle.lx_sheet.proofs.Imports.{IsPermutation-remove, All-permutation, length_permutation, CUES, Cue, eq_true, eq_below, Place, AreApart, IsBlock, IsPool, own_rows}
-use Rattle.lx_sheet.proofs.Imports.{placed_from, row_at_place}
+use Rattle.lx_sheet.proofs.Imports.{IsPermutation-remove, All-permutation, length_permutation, CUES, eq_true, eq_below, Place, AreApart, IsBlock, IsPool, own_rows}
+use Rattle.lx_sheet.proofs.Imports.{row_at_place}
 use Rattle.std.specs.List.Sorted.{IsPermutation}
 use Rattle.std.proofs.lemmas.Bool.Decides.{nat_tests}
 use Rattle.std.proofs.lemmas.Map.Keys.{apart_from_distinct, IsDistinct-from_apart, IsDistinct-IsPermutation}

@@ -1,8 +1,8 @@
 -- The rows of cues, by their places in the order, and the level that they give at a number.
-use Rattle.lx_sheet.proofs.Imports.{◌≡◌, ℕ, zero, suc, ◌-◌, ◌*◌, ◌<◌, ◌≤◌, true, false, cond, List, [], ◌∷◌, length, get_or}
-use Rattle.lx_sheet.proofs.Imports.{take, drop, map, Some, refl, ◌∙◌, sym, ap, arith, inl, inr, Option, find, reverse, nat_le, slice_get, option_map_or}
-use Rattle.lx_sheet.proofs.Imports.{AllByRecursion, cases_lt, length-map, IsStrictlySorted, entries_up_to, Place, Marks, Row, Sheet, level_in_row, marks_of}
-use Rattle.lx_sheet.proofs.Imports.{rows_of, cue_level, last_value, width, le_false, le_true, each, filter_none, find_last, shorter}
+use Rattle.lx_sheet.proofs.Imports.{◌≡◌, ℕ, zero, suc, ◌-◌, ◌<◌, ◌≤◌, List, [], ◌∷◌, length}
+use Rattle.lx_sheet.proofs.Imports.{take, map, refl, ◌∙◌, sym, ap, arith, inl, inr, Option, find, reverse, nat_le, slice_get, option_map_or}
+use Rattle.lx_sheet.proofs.Imports.{cases_lt, length-map, IsStrictlySorted, entries_up_to, Place, Marks, Row, Sheet, level_in_row, marks_of}
+use Rattle.lx_sheet.proofs.Imports.{rows_of, cue_level, last_value, le_false, le_true, each, filter_none, find_last}
 use Rattle.lx_sheet.proofs.Numbers.{count_up_to, count_up_to-map, count_within, sorted_alike}
 use Rattle.lx_sheet.specs.Rows.{level_by}
 use Rattle.lx_sheet.specs.Block.{cell}

@@ -1,7 +1,7 @@
 -- Rows whose cues stand at other places of the order once a cue came, went or was replaced: they follow from one another as before.
 use Rattle.lx_sheet.proofs.Imports.{◌≡◌, ℕ, ◌+◌, ◌-◌, ◌<◌, ◌≤◌, List, ◌++◌, length, get_or, take, drop, map, Some, None, refl, ◌∙◌, sym, ap}
 use Rattle.lx_sheet.proofs.Imports.{inl, inr, arith, Option, cases_eq, cases_lt, get_or-drop, get_or-take, get_or_default, take-take, take-map, drop-map}
-use Rattle.lx_sheet.proofs.Imports.{length-append, length-drop, length-map, length-take-le, map-append, append_assoc, take_at, drop_at, Cue, Show}
+use Rattle.lx_sheet.proofs.Imports.{length-append, length-map, length-take-le, map-append, append_assoc, take_at, drop_at, Cue, Show}
 use Rattle.lx_sheet.proofs.Imports.{IsStrictlySorted, entry_at, entries_below, entries_above, taken_out, new_cue, eq_true, eq_other, none_differs}
 use Rattle.lx_sheet.proofs.Imports.{below_and_above, split_there, Place, Marks, AreMarked, row_at_place, cell, IsMarkedFor, has_mark, level_after}
 use Rattle.lx_sheet.proofs.Imports.{tracked_on, IsRight, RowsFollow, FillsRows, IsPassed, IsLeft, [], ◌∷◌, option_map, with_cue, cue_of, slice_get-get_or, StandsAt}

@@ -1,11 +1,10 @@
 use Rattle.lx_sheet.proofs.Imports.{◌≡◌, ◌≢◌, ℕ, ◌+◌, ◌*◌, ◌-◌, ◌<◌, ◌≤◌, false, cond, Bool, List, length, take, set}
-use Rattle.lx_sheet.proofs.Imports.{Option, Some, ap, sym, ◌∙◌, subst, inl, inr, arith, IfSome, slice_get, cases_eq, get_or_default, slice_get-get_or}
-use Rattle.lx_sheet.proofs.Imports.{Cue, decides, level_in, Place, cell, cue_level, row_at_place, last_value, width, level_after, tracked_on}
+use Rattle.lx_sheet.proofs.Imports.{Some, ap, sym, ◌∙◌, inl, inr, arith, IfSome, slice_get, cases_eq, get_or_default, slice_get-get_or}
+use Rattle.lx_sheet.proofs.Imports.{Cue, decides, level_in, Place, cue_level, row_at_place, last_value, width, level_after, tracked_on}
 use Rattle.lx_sheet.proofs.Cells.{cell-set_here, cell-set_other, within_block}
 use Rattle.lx_sheet.proofs.BlockReach.{covered_at}
 use Rattle.lx_sheet.proofs.LevelsAfter.{level_after-take}
 use Rattle.lx_sheet.proofs.RowPool.{rows_differ}
-use Rattle.lx_sheet.proofs.Imports.{mul-le-mul_right, CUES}
 use Rattle.lx_sheet.proofs.block.fill_column.Goals as goal
 use Rattle.lx_sheet.proofs.block.fill_column.Goals.{then-decides_at+else-place-sure, else-decides_at}
 

@@ -1,4 +1,4 @@
-use Rattle.lx_sheet.proofs.Imports.{◌∙◌, ℕ, length, refl, arith}
+use Rattle.lx_sheet.proofs.Imports.{◌∙◌, length, refl, arith}
 use Rattle.lx_sheet.proofs.RightRows.{right_on}
 use Rattle.lx_sheet.proofs.block.fill_removed.Goals as goal
 

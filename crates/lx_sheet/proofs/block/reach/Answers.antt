@@ -1,4 +1,4 @@
-use Rattle.lx_sheet.proofs.Imports.{◌≡◌, ◌-◌, ◌*◌, ◌++◌, ℕ, List, take, vec_len, ap, ◌∙◌, arith, replicate, take_all, cell, width}
+use Rattle.lx_sheet.proofs.Imports.{◌-◌, ◌*◌, ℕ, List, vec_len, arith, take_all, width}
 use Rattle.lx_sheet.proofs.BlockReach.{cell_grown}
 use Rattle.lx_sheet.proofs.block.reach.Goals as goal
 

@@ -1,4 +1,4 @@
-use Rattle.lx_sheet.proofs.Imports.{◌≡◌, ℕ, ◌+◌, ◌*◌, ◌<◌, ◌≤◌, List, length, take, below_more, below_none, sym, ap, ◌∙◌, inl, inr, arith, rules, cases_eq}
+use Rattle.lx_sheet.proofs.Imports.{◌≡◌, ℕ, ◌+◌, ◌*◌, ◌≤◌, List, length, take, below_more, below_none, sym, ap, ◌∙◌, inl, inr, arith, rules, cases_eq}
 use Rattle.lx_sheet.proofs.Imports.{with_items_is, All-from_recursion, get_or, get_or_default, Cue, ValidCue, Marks, cell, level_in_look, width, level_after}
 use Rattle.lx_sheet.proofs.Imports.{tracked_on}
 use Rattle.std.proofs.lemmas.Grind.{common_steps}

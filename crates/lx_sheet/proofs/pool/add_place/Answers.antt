@@ -1,4 +1,4 @@
-use Rattle.lx_sheet.proofs.Imports.{◌≤◌, arith, Place, sorted_added}
+use Rattle.lx_sheet.proofs.Imports.{arith, Place, sorted_added}
 use Rattle.lx_sheet.proofs.RowPool.{pool_taken}
 use Rattle.lx_sheet.proofs.pool.add_place.Goals as goal
 

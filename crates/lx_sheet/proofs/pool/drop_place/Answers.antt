@@ -1,4 +1,4 @@
-use Rattle.lx_sheet.proofs.Imports.{◌<◌, ◌≤◌, List, length, ap, ◌∙◌, arith, IsStrictlySorted-filter, without, Place}
+use Rattle.lx_sheet.proofs.Imports.{List, length, ap, ◌∙◌, arith, IsStrictlySorted-filter, without, Place}
 use Rattle.lx_sheet.proofs.RowPool.{pool_freed}
 use Rattle.lx_sheet.proofs.pool.drop_place.Goals as goal
 

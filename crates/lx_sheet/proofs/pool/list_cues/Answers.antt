@@ -1,5 +1,5 @@
 use Rattle.lx_sheet.proofs.Imports.{◌≡◌, ◌+◌, ◌∷◌, [], ◌++◌, ℕ, List, length, take, sym, ap, ◌∙◌, arith, length-take, take_more}
-use Rattle.lx_sheet.proofs.Imports.{Cue, Place, placed_from}
+use Rattle.lx_sheet.proofs.Imports.{Cue, placed_from}
 use Rattle.lx_sheet.proofs.ListedRows.{length-placed_from, placed_from-more}
 use Rattle.lx_sheet.proofs.pool.list_cues.Goals as goal
 

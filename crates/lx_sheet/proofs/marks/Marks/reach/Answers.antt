@@ -1,8 +1,7 @@
-use Rattle.lx_sheet.proofs.Imports.{◌≡◌, ◌+◌, ◌-◌, ◌/◌, ◌%◌, ◌++◌, ℕ, List, get_or, min, take, vec_len, ap, ◌∙◌, arith}
-use Rattle.lx_sheet.proofs.Imports.{replicate, ◌==◌, bit_at, mul-le-mul_right, take_all, bit_of, group_of, word_place}
+use Rattle.lx_sheet.proofs.Imports.{◌+◌, ◌-◌, ◌/◌, ◌%◌, ℕ, List, min, vec_len, ap, arith}
+use Rattle.lx_sheet.proofs.Imports.{◌==◌, bit_at, mul-le-mul_right, take_all, bit_of, group_of, word_place}
 use Rattle.lx_sheet.specs.Marks.{has_mark}
 use Rattle.lx_sheet.proofs.BlockReach.{grown}
-use Rattle.lx_sheet.proofs.Imports.{refl}
 use Rattle.lx_sheet.proofs.marks.Marks.reach.Goals as goal
 
 pub returns-in-Ok-clause-same : goal.returns-in-Ok-clause-same

@@ -1,4 +1,4 @@
-use Rattle.lx_sheet.proofs.Imports.{ℕ, List, ap, ◌∙◌, arith, ◌==◌, bit_at, with_items_is, bit_of, group_of, row_bit}
+use Rattle.lx_sheet.proofs.Imports.{ap, arith, ◌==◌, bit_at, with_items_is, bit_of, group_of}
 use Rattle.lx_sheet.specs.Marks.{has_mark}
 use Rattle.lx_sheet.proofs.marks.Marks.write.Goals as goal
 

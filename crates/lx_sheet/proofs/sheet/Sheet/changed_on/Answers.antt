@@ -1,4 +1,4 @@
-use Rattle.lx_sheet.proofs.Imports.{◌≡◌, length, ap, ◌∙◌, refl}
+use Rattle.lx_sheet.proofs.Imports.{length, ap, ◌∙◌, refl}
 use Rattle.lx_sheet.proofs.FilledColumns.{stands_behind}
 use Rattle.lx_sheet.proofs.sheet.Sheet.changed_on.Goals as goal
 

@@ -1,6 +1,6 @@
-use Rattle.lx_sheet.proofs.Imports.{◌≡◌, ℕ, ◌<◌, ◌≤◌, List, length, get_or, map, refl, ap, sym, ◌∙◌, subst, arith, IfSome, slice_get, length-map}
-use Rattle.lx_sheet.proofs.Imports.{with_items_is, IfSome_then, IsStrictlySorted, Cue, Show, tracked, Marks, Place, Sheet, level_by, level_of, numbers_of}
-use Rattle.lx_sheet.proofs.Imports.{count_under, row_at_place, rows_of, Tells, IsMarked, cue_numbers}
+use Rattle.lx_sheet.proofs.Imports.{◌≡◌, ℕ, ◌<◌, List, length, get_or, map, refl, ap, sym, ◌∙◌, subst, arith, length-map}
+use Rattle.lx_sheet.proofs.Imports.{with_items_is, IfSome_then, Cue, Place, Sheet, level_by, level_of, numbers_of}
+use Rattle.lx_sheet.proofs.Imports.{count_under, row_at_place, rows_of, IsMarked, cue_numbers}
 use Rattle.lx_sheet.proofs.BlockReach.{block_longer}
 use Rattle.lx_sheet.proofs.FilledColumns.{FillsColumn, column_filled}
 use Rattle.lx_sheet.proofs.MarkedRows.{grown_none, marks_kept, tells}

@@ -1,5 +1,5 @@
-use Rattle.lx_sheet.proofs.Imports.{◌≡◌, ◌+◌, ◌*◌, ◌<◌, ◌≤◌, ℕ, List, [], ◌∷◌, length, refl, ap, sym, ◌∙◌, subst, arith, insert, length_refill}
-use Rattle.lx_sheet.proofs.Imports.{with_items_is, IsStrictlySorted, GoesAt, Cue, Show, with_cue, Sheet, Marks, Place, row_at_place, IsBlock, FillsRows}
+use Rattle.lx_sheet.proofs.Imports.{◌≡◌, ◌+◌, ℕ, List, [], ◌∷◌, length, refl, ap, sym, ◌∙◌, arith, insert, length_refill}
+use Rattle.lx_sheet.proofs.Imports.{with_items_is, IsStrictlySorted, GoesAt, Cue, Show, with_cue, Sheet, Marks, Place, row_at_place, FillsRows}
 use Rattle.std.proofs.lemmas.List.Edits.{length-insert}
 use Rattle.lx_sheet.proofs.BlockReach.{block_inserted, block_longer}
 use Rattle.lx_sheet.proofs.MarkedRows.{AtPlaces, at_places, grown_places, marks_kept, marks_reached, remarked, stands_of}

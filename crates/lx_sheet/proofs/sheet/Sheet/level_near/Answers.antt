@@ -1,5 +1,5 @@
-use Rattle.lx_sheet.proofs.Imports.{◌≡◌, ℕ, ◌+◌, ◌-◌, ◌<◌, List, length, map, ap, sym, ◌∙◌, subst, arith, entries_up_to, nat_le}
-use Rattle.lx_sheet.proofs.Imports.{Place, Sheet, level_of, AreApart, own_rows, cue_level, last_value, shorter}
+use Rattle.lx_sheet.proofs.Imports.{◌≡◌, ℕ, ◌+◌, ◌-◌, ◌<◌, List, map, ap, sym, ◌∙◌, arith, nat_le}
+use Rattle.lx_sheet.proofs.Imports.{Place, Sheet, level_of, shorter}
 use Rattle.lx_sheet.proofs.Imports.{refl}
 use Rattle.lx_sheet.proofs.Past.{level_of_past}
 use Rattle.lx_sheet.proofs.Rows.{level_of_block}

@@ -1,5 +1,5 @@
-use Rattle.lx_sheet.proofs.Imports.{◌≡◌, ℕ, ◌+◌, ◌-◌, ◌*◌, ◌<◌, ◌≤◌, List, length, get_or, take, drop, map, ap, sym, ◌∙◌}
-use Rattle.lx_sheet.proofs.Imports.{subst, arith, nat_le, shorter, entries_up_to, Place, Sheet, level_of, AreApart, own_rows, row_at_place, width}
+use Rattle.lx_sheet.proofs.Imports.{◌≡◌, ℕ, ◌+◌, ◌-◌, ◌<◌, List, length, map, ap, sym, ◌∙◌}
+use Rattle.lx_sheet.proofs.Imports.{arith, nat_le, shorter, Place, Sheet, level_of}
 use Rattle.lx_sheet.proofs.Cells.{width_of}
 use Rattle.lx_sheet.proofs.BlockReach.{covered_at}
 use Rattle.lx_sheet.proofs.Found.{look_found, look_none}

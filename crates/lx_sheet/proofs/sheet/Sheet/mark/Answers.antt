@@ -1,5 +1,5 @@
-use Rattle.lx_sheet.proofs.Imports.{◌≡◌, ◌+◌, ◌*◌, ◌<◌, ◌≤◌, ℕ, List, length, ap, sym, ◌∙◌, subst, refl, arith, IsStrictlySorted, StandsAt, Place, Sheet}
-use Rattle.lx_sheet.proofs.Imports.{is_marked, level_of, numbers_of, row_at_place, IsMarkedAt}
+use Rattle.lx_sheet.proofs.Imports.{length, ap, sym, ◌∙◌, refl, arith, StandsAt, Sheet}
+use Rattle.lx_sheet.proofs.Imports.{is_marked}
 use Rattle.lx_sheet.proofs.BlockReach.{covered_at}
 use Rattle.lx_sheet.proofs.MarkedRows.{marked_absent, marked_anew, marked_others, marks_kept}
 use Rattle.lx_sheet.proofs.sheet.Sheet.mark.Goals as goal

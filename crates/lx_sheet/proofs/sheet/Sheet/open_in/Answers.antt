@@ -1,4 +1,4 @@
-use Rattle.lx_sheet.proofs.Imports.{◌≡◌, ◌-◌, List, [], length, ap, arith, rules, CUES, Place}
+use Rattle.lx_sheet.proofs.Imports.{◌≡◌, ◌-◌, [], length, ap, arith, rules, CUES}
 use Rattle.lx_sheet.proofs.ListedRows.{block_listed, listed_pool}
 use Rattle.lx_sheet.proofs.sheet.Sheet.open_in.Goals as goal
 

@@ -1,4 +1,4 @@
-use Rattle.lx_sheet.proofs.Imports.{◌≡◌, ◌-◌, ℕ, List, length, ap, ◌∙◌, arith, length_refill, CUES, Cue, Sheet, placed_from}
+use Rattle.lx_sheet.proofs.Imports.{◌-◌, List, length, ap, ◌∙◌, arith, length_refill, CUES, Cue, Sheet, placed_from}
 use Rattle.lx_sheet.proofs.ListedRows.{block_listed, IsStrictlySorted-placed_from, listed_places, listed_pool}
 use Rattle.lx_sheet.proofs.MarkedRows.{marks_reached, stands_of}
 use Rattle.lx_sheet.proofs.sheet.Sheet.refill.Goals as goal

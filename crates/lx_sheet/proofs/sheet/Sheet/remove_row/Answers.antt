@@ -1,12 +1,11 @@
-use Rattle.lx_sheet.proofs.Imports.{◌≡◌, ◌+◌, ◌*◌, ◌<◌, ◌≤◌, ℕ, List, [], length, refl, ap, sym, ◌∙◌, arith, add-one, remove, length_refill}
+use Rattle.lx_sheet.proofs.Imports.{◌≡◌, ◌+◌, ℕ, List, [], length, refl, ap, sym, ◌∙◌, arith, add-one, remove, length_refill}
 use Rattle.lx_sheet.proofs.Imports.{with_items_is, IsStrictlySorted, StandsAt, below_and_above, Cue, Show, without_cue, Sheet, Marks, Place}
-use Rattle.lx_sheet.proofs.Imports.{FillsRows, RowsStandFor}
+use Rattle.lx_sheet.proofs.Imports.{FillsRows}
 use Rattle.lx_sheet.proofs.BlockReach.{block_longer, block_removed, covered_at}
 use Rattle.lx_sheet.proofs.MarkedRows.{AtPlaces, at_places, grown_none, marks_kept, stands_of, unmarked}
 use Rattle.lx_sheet.proofs.Numbers.{absent_alike}
 use Rattle.lx_sheet.proofs.RightRows.{order_length}
 use Rattle.lx_sheet.proofs.RowPool.{row_within}
-use Rattle.lx_sheet.proofs.Rows.{sheet_of}
 use Rattle.lx_sheet.proofs.ShiftedRows.{IsShifted, left_behind, own_there, places_shifted, shifted, taken_absent}
 use Rattle.lx_sheet.proofs.sheet.Sheet.remove_row.Goals as goal
 
@@ -90,8 +89,11 @@ invariant_of-self c =
     }
 
 pub invariant_of-self-else-len-cues : goal.invariant_of-self-else-len-cues
-invariant_of-self-else-len-cues c = assumption (c.self.invariant, c.drop_place.ensures.kept,
-    block_removed c.in-Some.freed.at c.self.invariant.block c.drop_place.ensures.kept.pool c.in-Some.ensures.dropped c.in-Some.ensures.stands.within)
+invariant_of-self-else-len-cues c = assumption (
+  c.self.invariant,
+  c.drop_place.ensures.kept,
+  block_removed c.in-Some.freed.at c.self.invariant.block c.drop_place.ensures.kept.pool c.in-Some.ensures.dropped c.in-Some.ensures.stands.within,
+)
 
 pub invariant_of-self-in_default : goal.invariant_of-self-in_default
 invariant_of-self-in_default c = assumption (c.self.invariant, c.drop_place.ensures.kept, rw (← c.drop_place.ensures.none c.in_default.is) at c.self.invariant.block)

@@ -1,4 +1,4 @@
-use Rattle.lx_sheet.proofs.Imports.{◌≡◌, ◌+◌, ◌*◌, ◌<◌, ◌≤◌, ℕ, List, [], ◌∷◌, length, map, ap, sym, ◌∙◌, arith, is_some, false≢true, length_refill}
+use Rattle.lx_sheet.proofs.Imports.{◌≡◌, ◌+◌, ℕ, List, [], ◌∷◌, length, map, ap, sym, ◌∙◌, arith, is_some, false≢true, length_refill}
 use Rattle.lx_sheet.proofs.Imports.{with_items_is, IsStrictlySorted, StandsAt, Cue, Show, with_cue, Sheet, Marks, Place, row_at_place, FillsRows}
 use Rattle.lx_sheet.proofs.BlockReach.{block_longer, covered_at}
 use Rattle.lx_sheet.proofs.Found.{stands_number}

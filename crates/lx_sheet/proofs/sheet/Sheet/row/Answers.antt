@@ -1,8 +1,8 @@
-use Rattle.lx_sheet.proofs.Imports.{◌≡◌, ℕ, ◌+◌, ◌-◌, ◌*◌, ◌<◌, ◌≤◌, List, take, drop, ap, sym, ◌∙◌, arith, Some, None, option_map, entry_at, row_of}
-use Rattle.lx_sheet.proofs.Imports.{IsStrictlySorted, StandsAt, Place, Sheet, row_at, numbers_of, RowsStandFor, row_at_place, width}
+use Rattle.lx_sheet.proofs.Imports.{List, ap, sym, ◌∙◌, arith, option_map, row_of}
+use Rattle.lx_sheet.proofs.Imports.{StandsAt, Place, Sheet, row_at, numbers_of}
 use Rattle.lx_sheet.proofs.Cells.{width_of, within_block}
 use Rattle.lx_sheet.proofs.Found.{row_found, row_absent, cue_found, cue_absent}
-use Rattle.lx_sheet.proofs.Rows.{numbers-rows_of, sheet_of}
+use Rattle.lx_sheet.proofs.Rows.{numbers-rows_of}
 use Rattle.lx_sheet.proofs.sheet.Sheet.row.Goals as goal
 
 pub index_of-requires : goal.index_of-requires
