@@ -42,7 +42,8 @@ block_removed {channels} {levels} {old} {new} at block pool dropped within =
     let there : at < length rows = omega (arith, length-map old (λ (p : Place). p.row)) in
     let row : ℕ = get_or rows at 0 in
     let all : All P (row ∷ remove rows at) =
-    All-permutation P rows (row ∷ remove rows at) (IsPermutation-remove rows at row there (get_or_default rows at 0 row there)) block.covered in
+    All-permutation P rows (row ∷ remove rows at) (IsPermutation-remove rows at row there (get_or_default rows at 0 row there))
+    block.covered in
     record {
       few = block.few;
       covered = subst (All P) (sym (ap own_rows dropped ∙ own-remove old at)) (λ k d less. all (suc k) d (omega arith));

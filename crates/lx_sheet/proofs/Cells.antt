@@ -54,12 +54,14 @@ places_apart channels i k a b = same_from_place i a k b channels
 -- a level written into the block
 pub cell-set_here : (channels : ℕ) (levels : List ℕ) (k c level : ℕ) → 1 ≤ c → c ≤ channels → k * width channels + (c - 1) < length levels
     → cell channels (set levels (k * width channels + (c - 1)) level) k c ≡ level
-cell-set_here channels levels k c level least most within = cell_is channels (set levels (k * width channels + (c - 1)) level) k c least most
+cell-set_here channels levels k c level least most within = cell_is channels (set levels (k * width channels + (c - 1)) level) k c least
+    most
     ∙ get_or-set_same levels (k * width channels + (c - 1)) level 0 within
 
 pub cell-set_other : (channels : ℕ) (levels : List ℕ) (k i chan c level : ℕ) → 1 ≤ chan → chan ≤ channels → (i ≡ k → c ≡ chan → ⊥)
     → cell channels (set levels (k * width channels + (chan - 1)) level) i c ≡ cell channels levels i c
-cell-set_other channels levels k i chan zero level least most other = cell_zero channels (set levels (k * width channels + (chan - 1)) level) i
+cell-set_other channels levels k i chan zero level least most other = cell_zero channels (set levels (k * width channels + (chan - 1))
+    level) i
     ∙ sym (cell_zero channels levels i)
 cell-set_other channels levels k i chan (suc c) level least most other =
     elim (cases_lt channels (suc c)) [
@@ -67,19 +69,23 @@ cell-set_other channels levels k i chan (suc c) level least most other =
           ∙ sym (cell_past channels levels i (suc c) past)
       | inr within ↦
           let apart : i * width channels + (suc c - 1) ≢ k * width channels + (chan - 1) = λ same. let both =
-          places_apart (width channels) i k (suc c - 1) (chan - 1) (omega arith) (omega arith) same in other both.0 (omega (arith, both.1)) in
+          places_apart (width channels) i k (suc c - 1) (chan - 1) (omega arith) (omega arith) same in other both.0
+          (omega (arith, both.1)) in
           cell_is channels (set levels (k * width channels + (chan - 1)) level) i (suc c) (omega arith) within
           ∙ get_or-set_other levels (k * width channels + (chan - 1)) (i * width channels + (suc c - 1)) level 0 apart
           ∙ sym (cell_is channels levels i (suc c) (omega arith) within)
     ]
 
 -- a row written into the block
-pub row_here : (channels : ℕ) (levels look : List ℕ) (place end : ℕ) → end ≡ place * width channels + channels → place * width channels ≤ length levels
-    → length look ≡ channels → take channels (drop (place * width channels) (put_mid (place * width channels) (end - place * width channels) levels look))
+pub row_here : (channels : ℕ) (levels look : List ℕ) (place end : ℕ) → end ≡ place * width channels + channels
+    → place * width channels ≤ length levels
+    → length look ≡ channels → take channels (drop (place * width channels) (put_mid (place * width channels)
+    (end - place * width channels) levels look))
     ≡ look
 row_here channels levels look place end is within long =
     let whole : end - place * width channels ≡ channels = omega arith in
-    let P : ℕ → Type 0 = λ n. take n (drop (place * width channels) (put_mid (place * width channels) (end - place * width channels) levels look)) ≡ look in
+    let P : ℕ → Type 0 = λ n. take n (drop (place * width channels) (put_mid (place * width channels) (end - place * width channels) levels
+    look)) ≡ look in
     subst P whole (between-put_mid (place * width channels) (end - place * width channels) levels look end within (omega arith))
 
 pub row_other : (channels : ℕ) (levels look : List ℕ) (k place end : ℕ) → end ≡ place * width channels + channels
@@ -94,13 +100,15 @@ row_other channels levels look k place end is within long other =
             let below : k * width channels + channels ≤ place * width channels = let m =
             mul-le-mul_right {m = suc k} {n = place} (width channels) (omega arith) in omega (arith, m) in
             sym (drop-take (k * width channels) channels (put_mid (place * width channels) (end - place * width channels) levels look))
-            ∙ ap (drop (k * width channels)) (take-put_mid_below (place * width channels) (end - place * width channels) levels look (k * width channels + channels)
+            ∙ ap (drop (k * width channels)) (take-put_mid_below (place * width channels) (end - place * width channels) levels look
+            (k * width channels + channels)
             below within)
             ∙ drop-take (k * width channels) channels levels
         | inr more ↦
             let above : place * width channels + channels ≤ k * width channels = let m =
             mul-le-mul_right {m = suc place} {n = k} (width channels) (omega arith) in omega (arith, m) in
-            ap (take channels) (drop-put_mid (place * width channels) (end - place * width channels) levels look (k * width channels) (omega arith) within
+            ap (take channels) (drop-put_mid (place * width channels) (end - place * width channels) levels look (k * width channels)
+            (omega arith) within
             (omega arith))
       ]
     ]

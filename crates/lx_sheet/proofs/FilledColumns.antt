@@ -1,7 +1,8 @@
 -- A column that was filled in from a cue on stands for the show.
 use Rattle.lx_sheet.proofs.Imports.{◌≡◌, ℕ, zero, suc, ◌+◌, ◌<◌, ◌≤◌, ◌&&◌, Bool, true, List, [], ◌∷◌, length, get_or, take}
 use Rattle.lx_sheet.proofs.Imports.{◌∙◌, subst, arith, inl, inr, Option, IfSome, filter, find, option_map}
-use Rattle.lx_sheet.proofs.Imports.{nat_le, nat_lt, cases_lt, length-map, get_or-map, slice_get-get_or, All-from_recursion, IsStrictlySorted, Cue, Show, new_cue}
+use Rattle.lx_sheet.proofs.Imports.{nat_le, nat_lt, cases_lt, length-map, get_or-map}
+use Rattle.lx_sheet.proofs.Imports.{slice_get-get_or, All-from_recursion, IsStrictlySorted, Cue, Show, new_cue}
 use Rattle.lx_sheet.proofs.Imports.{decides, tracked, lt_true, entries_up_to, Place, Sheet, level_by, level_of, rows_of, cue_level, last_value}
 use Rattle.lx_sheet.proofs.Imports.{count_under, level_after, IsEnd, IsRight, StandsFrom, cue_numbers, next_decision}
 use Rattle.std.proofs.lemmas.Bool.{cases_Bool}
@@ -16,16 +17,19 @@ use Rattle.lx_sheet.proofs.RightRows.{IsOrderOf, column_right, last_right, reach
 pub record FillsColumn (channels : ℕ) (order : List Place) (cues : List Cue) (levels filled : List ℕ) (chan first last : ℕ) : Type 0 where
   pub front : (k : ℕ) → k < first → cue_level channels order filled k chan ≡ cue_level channels order levels k chan
   pub back : (k : ℕ) → last ≤ k → k < length cues → cue_level channels order filled k chan ≡ cue_level channels order levels k chan
-  pub rows : last_value first (λ k. cue_level channels order levels k chan) ≡ level_after (take first cues) chan → (k : ℕ) → first ≤ k → k < last
+  pub rows : last_value first (λ k. cue_level channels order levels k chan) ≡ level_after (take first cues) chan → (k : ℕ) → first ≤ k
+      → k < last
       → IsRight channels order cues filled k chan
 
 -- a column whose rows up to a place were filled in, and whose rows from there on stood
-pub column_filled : {show : Show} {channels : ℕ} {order : List Place} {levels filled : List ℕ} {chan first last : ℕ} (from : ℕ) → IsOrderOf show order
+pub column_filled : {show : Show} {channels : ℕ} {order : List Place} {levels filled : List ℕ} {chan first last : ℕ} (from : ℕ)
+    → IsOrderOf show order
     → first ≡ count_under from (cue_numbers show)
     → ((n : ℕ) → n < from → level_by (rows_of channels order levels) n chan ≡ tracked show n chan)
     → ((k : ℕ) → last ≤ k → k < length show.cues
     → level_by (rows_of channels order levels) (get_or (cue_numbers show) k 0) chan ≡ tracked show (get_or (cue_numbers show) k 0) chan)
-    → FillsColumn channels order show.cues levels filled chan first last → (n : ℕ) → level_by (rows_of channels order filled) n chan ≡ tracked show n chan
+    → FillsColumn channels order show.cues levels filled chan first last → (n : ℕ) → level_by (rows_of channels order filled) n
+    chan ≡ tracked show n chan
 column_filled {show} {channels} {order} {levels} {filled} {chan} {first} {last} from is of_first below above fills =
     let stood : (k : ℕ) → k < first → IsRight channels order show.cues levels k chan =
     λ k less. right_below is channels levels chan from k below (omega (arith, of_first, less)) in
@@ -51,7 +55,8 @@ up_to_is_under n numbers =
 
 -- From the first entry that passes a test on it holds, and so at each that passes it and at those behind.
 behind_first : (p : Cue → Bool) (Q : ℕ → Type 0) (xs : List Cue) (k m : ℕ) (d : Cue) → IsStrictlySorted (λ x. x.number) xs → k < length xs
-    → p (get_or xs k d) ≡ true → (get_or xs k d).number ≤ m → IfSome (option_map (λ x. x.number) (find p xs)) (λ e. (n : ℕ) → e ≤ n → Q n) → Q m
+    → p (get_or xs k d) ≡ true → (get_or xs k d).number ≤ m → IfSome (option_map (λ x. x.number) (find p xs)) (λ e. (n : ℕ) → e ≤ n → Q n)
+    → Q m
 behind_first p Q [] k m d sorted within is low above = absurd (omega arith)
 behind_first p Q (x ∷ xs) zero m d sorted within is low above = (rw is at above) m low
 behind_first p Q (x ∷ xs) (suc k) m d sorted within is low above = elim (cases_Bool (p x)) [

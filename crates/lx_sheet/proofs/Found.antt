@@ -24,11 +24,13 @@ twice : (row : Place → Row) (o : Option Place) → option_map (λ r. r.levels)
 twice row None = refl
 twice row (Some p) = refl
 
-row_by : (channels : ℕ) (order : List Place) (levels : List ℕ) (n : ℕ) → option_map (λ r. r.levels) (entry_at (λ r. r.number) n (rows_of channels order levels))
+row_by : (channels : ℕ) (order : List Place) (levels : List ℕ) (n : ℕ) → option_map (λ r. r.levels)
+    (entry_at (λ r. r.number) n (rows_of channels order levels))
     ≡ option_map (λ p. take channels (drop (p.row * width channels) levels)) (entry_at (λ p. p.cue) n order)
 row_by channels order levels n =
     let row : Place → Row = λ p. record { number = p.cue; levels = take channels (drop (p.row * width channels) levels) } in
-    ap (option_map (λ (r : Row). r.levels)) (find_mapped row (λ (r : Row). r.number == n) order) ∙ twice row (entry_at (λ (p : Place). p.cue) n order)
+    ap (option_map (λ (r : Row). r.levels)) (find_mapped row (λ (r : Row). r.number == n) order)
+    ∙ twice row (entry_at (λ (p : Place). p.cue) n order)
 
 pub row_found : (channels : ℕ) {order : List Place} (levels : List ℕ) {n at : ℕ} → StandsAt (λ x. x.cue) n order at
     → Some (take channels (drop (row_at_place order at * width channels) levels))
@@ -82,7 +84,8 @@ row_right {show} {channels} {order} {levels} {n} {at} marks block sorted place s
     ∙ sym (get_or-map-range_with_len (tracked show n) 1 show.channels k (suc k) d (omega (arith, less, long, stands.channels))
     (omega arith)))
 
-pub cue_found : {show : Show} {channels : ℕ} {order : List Place} {levels : List ℕ} {n at : ℕ} (marks : Marks) → IsBlock channels levels order
+pub cue_found : {show : Show} {channels : ℕ} {order : List Place} {levels : List ℕ} {n at : ℕ} (marks : Marks)
+    → IsBlock channels levels order
     → IsStrictlySorted (λ x. x.cue) order → StandsAt (λ x. x.cue) n order at → RowsStandFor show (sheet_of channels order levels marks)
     → Some (take channels (drop (row_at_place order at * width channels) levels)) ≡ option_map (λ cue. row_of show n) (cue_of show n)
 cue_found {show} {channels} {order} {levels} {n} {at} marks block sorted place stands =

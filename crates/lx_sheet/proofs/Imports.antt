@@ -8,7 +8,8 @@ pub use Rattle.std.proofs.Common.{sym, take, take-take, take_all, take_at, true,
 pub use Rattle.lx_base.specs.Rows.{Agree}
 pub use Rattle.lx_base.specs.declared.TheConstants.{CHANNELS, CUES}
 pub use Rattle.lx_sheet.specs.After.{FillsRows, IsDecision, IsEnd, IsLeft, IsPassed, IsRight, level_after, RowsFollow, tracked_on}
-pub use Rattle.lx_sheet.specs.Block.{AreApart, AreMarked, cell, count_under, Covers, cue_level, HasPlaces, HoldsMarks, IsBlock, IsOrder, IsPool, last_value, level_in_look, marks_of, own_rows}
+pub use Rattle.lx_sheet.specs.Block.{AreApart, AreMarked, cell, count_under, Covers, cue_level, HasPlaces}
+pub use Rattle.lx_sheet.specs.Block.{HoldsMarks, IsBlock, IsOrder, IsPool, last_value, level_in_look, marks_of, own_rows}
 pub use Rattle.lx_sheet.specs.Block.{placed_from, row_at_place, rows_of, width}
 pub use Rattle.lx_sheet.specs.Marks.{has_mark, IsGrown, IsMarkedFor, IsMarkTable, IsReached, Tells}
 pub use Rattle.lx_sheet.specs.Rows.{CueMarks, is_marked, level_by, level_in_row, level_of, numbers_of, Row, row_at, Sheet}

@@ -51,7 +51,8 @@ whole_pool cues n all =
 pub listed_pool : (order : List Place) (free : List ℕ) (cues : List Cue) (n : ℕ) → order ≡ placed_from 0 cues
     → free ≡ reverse (range_with_len (length cues) n) → length cues + n ≡ CUES → IsPool order free
 listed_pool order free cues n listed freed all =
-    rw (listed, freed) (pool_moved (placed_from 0 cues) (placed_from 0 cues) (range_with_len (length cues) n) (reverse (range_with_len (length cues) n))
+    rw (listed, freed) (pool_moved (placed_from 0 cues) (placed_from 0 cues) (range_with_len (length cues) n)
+    (reverse (range_with_len (length cues) n))
     (IsPermutation-append_right (own_rows (placed_from 0 cues)) _ _ (IsPermutation-reverse (range_with_len (length cues) n)))
     (whole_pool cues n all))
 

@@ -122,19 +122,22 @@ in_or_past channels c within past = elim (cases_lt channels c) [
 
 -- the channels that a cue decides are marked at its number where they are in its row
 marked_number : {order : List Place} {n k : ℕ} (channels : ℕ) (marks : Marks) (cue : Cue) → StandsAt (λ p. p.cue) n order k
-    → IsMarkedFor channels marks (row_at_place order k) cue → (c : ℕ) → decides cue c ≡ true → marked_by (marks_of channels order marks) n c ≡ true
+    → IsMarkedFor channels marks (row_at_place order k) cue → (c : ℕ) → decides cue c ≡ true → marked_by (marks_of channels order marks) n
+    c ≡ true
 marked_number {order} {k = k} channels marks cue stands right c is =
     marked_there channels marks c stands
     ∙ in_or_past channels c
     (λ least most. mark_in_range channels marks (row_at_place order k) c least most ∙ right c least most is)
     (mark_in_past channels marks (row_at_place order k) c)
 
-same_place : {show : Show} {order : List Place} (k : ℕ) (cue : Cue) → IsOrderOf show order → k < length show.cues → cue ≡ get_or show.cues k cue
+same_place : {show : Show} {order : List Place} (k : ℕ) (cue : Cue) → IsOrderOf show order → k < length show.cues
+    → cue ≡ get_or show.cues k cue
     → StandsAt (λ p. p.cue) cue.number order k
 same_place {show} {order} k cue is within here =
     let d : Place = record { cue = 0; row = 0 } in
     let there : k < length order = omega (arith, within, order_length is) in
-    stands_where (λ (p : Place). p.cue) cue.number order k (get_or order k d) is.sorted there (get_or_default order k d (get_or order k d) there)
+    stands_where (λ (p : Place). p.cue) cue.number order k (get_or order k d) is.sorted there (get_or_default order k d (get_or order k d)
+    there)
     (sym (get_or-map (λ (p : Place). p.cue) order k d 0 there) ∙ ap (λ (ns : List ℕ). get_or ns k 0) is.numbers
     ∙ get_or-map (λ (x : Cue). x.number) show.cues k cue 0 within ∙ ap (λ (x : Cue). x.number) (sym here))
 
@@ -173,8 +176,10 @@ marked_others {channels} {order = order} {n} {at} old new block stands same m c 
     (λ k p there number.
     let within : k < length order = slice_get_within order k p there in
     let is : p ≡ get_or order k p = sym (get_or_from_slice_get order k p p there) in
-    let differ : k ≢ at = λ e. other (sym number ∙ ap (λ (x : Place). x.cue) is ∙ ap (λ i. (get_or order i p).cue) e ∙ stands_number p stands) in
-    let apart_row : p.row ≢ row_at_place order at = λ e. rows_differ k at block within stands.within differ (row_is order k p within is ∙ e) in
+    let differ : k ≢ at = λ e. other (sym number ∙ ap (λ (x : Place). x.cue) is ∙ ap (λ i. (get_or order i p).cue) e
+    ∙ stands_number p stands) in
+    let apart_row : p.row ≢ row_at_place order at = λ e. rows_differ k at block within stands.within differ (row_is order k p within is
+    ∙ e) in
     in_or_past channels c
     (λ least most. mark_in_range channels new p.row c least most ∙ same p.row c apart_row least most
     ∙ sym (mark_in_range channels old p.row c least most))
@@ -213,7 +218,8 @@ at_places {show} {channels} {order} {levels} {marks} sorted stands =
       marked = marks_right channels levels marks is stands.marks;
     }
 
-pub stands_of : {show : Show} {channels : ℕ} {order : List Place} {levels : List ℕ} {marks : Marks} → AtPlaces show channels order levels marks
+pub stands_of : {show : Show} {channels : ℕ} {order : List Place} {levels : List ℕ} {marks : Marks} → AtPlaces show channels order levels
+    marks
     → RowsStandFor show (sheet_of channels order levels marks)
 stands_of {show} {channels} {order} {levels} {marks} at = record {
   channels = at.same;
@@ -242,7 +248,8 @@ tells {show} {channels} {order} {levels} {marks} chan is block marked stands lea
       few = marked.table.few;
       within = omega (arith, most, marked.table.groups);
       reached = marked.reached (row_at_place order k) (covered_at k block (omega (arith, within, order_length is)));
-      marked = marks_right channels levels marks is stands k cue within (sym (get_or_from_slice_get show.cues k cue cue there)) chan least most;
+      marked = marks_right channels levels marks is stands k cue within (sym (get_or_from_slice_get show.cues k cue cue there)) chan least
+          most;
     })
 
 -- The marks of the rows at the places from one to another are right, and those at the other places are as before.
@@ -253,7 +260,8 @@ pub record IsRemarked (channels : ℕ) (order : List Place) (cues : List Cue) (w
       → IsMarkedFor channels marks (row_at_place order k) cue
 
 -- so they are where those of one row were written again, for its cue
-pub remarked : {channels : ℕ} {levels : List ℕ} {order : List Place} {at row : ℕ} {cues : List Cue} {cue : Cue} {was marks : Marks} {most : ℕ}
+pub remarked : {channels : ℕ} {levels : List ℕ} {order : List Place} {at row : ℕ} {cues : List Cue} {cue : Cue} {was marks : Marks}
+    {most : ℕ}
     → IsBlock channels levels order → at < length order → row ≡ row_at_place order at → cue ≡ get_or cues at cue → channels ≤ most
     → IsMarkedFor most marks row cue → ((r c : ℕ) → r ≢ row → 1 ≤ c → c ≤ most → has_mark marks r c ≡ has_mark was r c)
     → IsRemarked channels order cues was marks at (at + 1)

@@ -17,7 +17,11 @@ pub tracked_is : (show : Show) (n c : ℕ) → IsStrictlySorted (λ cue. cue.num
     → tracked show n c ≡ level_after (take (count_up_to n (cue_numbers show)) show.cues) c
 unfolding level_after
 tracked_is show n c sorted =
-    rw (← find_both_last (λ (cue : Cue). nat_le cue.number n) (λ (cue : Cue). decides cue c) show.cues, up_to_is_front (λ (cue : Cue). cue.number) n show.cues sorted)
+    rw (
+      ← find_both_last (λ (cue : Cue). nat_le cue.number n) (λ (cue : Cue). decides cue c) show.cues,
+      up_to_is_front
+          (λ (cue : Cue). cue.number) n show.cues sorted,
+    )
 
 -- up to the number at a place there are that many and one
 count_at : (numbers : List ℕ) (k : ℕ) → IsStrictlySorted (λ n. n) numbers → k < length numbers
@@ -52,9 +56,14 @@ under end (m ∷ ms) (suc k) sorted within = elim (cases_lt m end) [
 
 pub reached : (end : ℕ) (numbers : List ℕ) (k : ℕ) → IsStrictlySorted (λ n. n) numbers → count_under end numbers ≤ k → k < length numbers
     → end ≤ get_or numbers k 0
-reached end numbers k sorted least within = elim (under end numbers k sorted within) [ inl low ↦ absurd (omega (arith, low.1)) | inr high ↦ high.0 ]
+reached end numbers k sorted least within = elim (under end numbers k sorted within) [
+  | inl low ↦ absurd (omega (arith, low.1))
+  | inr high ↦
+      high.0
+]
 
-not_reached : (end : ℕ) (numbers : List ℕ) (k : ℕ) → IsStrictlySorted (λ n. n) numbers → k < count_under end numbers → get_or numbers k 0 < end
+not_reached : (end : ℕ) (numbers : List ℕ) (k : ℕ) → IsStrictlySorted (λ n. n) numbers → k < count_under end numbers
+    → get_or numbers k 0 < end
 not_reached end numbers k sorted less = elim (under end numbers k sorted (omega (arith, count_under_within end numbers))) [
   | inl low ↦ low.0
   | inr high ↦ absurd (omega (arith, high.1))
@@ -111,7 +120,8 @@ module _ {show : Show} {order : List Place} (is : IsOrderOf show order) (channel
   column_right right n =
       let within : count_up_to n (cue_numbers show) ≤ length show.cues =
       omega (arith, count_within n (cue_numbers show), length-map show.cues (λ (cue : Cue). cue.number)) in
-      level_is n ∙ last_right channels order show.cues levels c (count_up_to n (cue_numbers show)) (λ k less. right k (omega (arith, within, less)))
+      level_is n ∙ last_right channels order show.cues levels c (count_up_to n (cue_numbers show))
+      (λ k less. right k (omega (arith, within, less)))
       ∙ sym (tracked_is show n c is.cues_sorted)
 
 -- how many cues are below the number, or all
@@ -143,7 +153,8 @@ right_on channels order cues levels from at c follows least right (suc k) past w
   | inr apart ↦
       let next : k + 1 ≡ suc k = omega arith in
       subst (λ j. IsRight channels order cues levels j c) next
-      (follows k c (omega arith) (omega arith) (right_on channels order cues levels from at c follows least right k (omega arith) (omega arith)))
+      (follows k c (omega arith) (omega arith) (right_on channels order cues levels from at c follows least right k (omega arith)
+      (omega arith)))
 ]
 
 -- a sheet that stands for a show has its cues in order

@@ -4,7 +4,8 @@ use Rattle.lx_sheet.proofs.Imports.{take, drop, ◌∙◌, sym, ap, subst, inl, 
 use Rattle.lx_sheet.proofs.Imports.{cases_order, false≢true, append_assoc, map-append, take-map, drop-map, length-map, length-append, get_or-map}
 use Rattle.lx_sheet.proofs.Imports.{get_or_append_left, length-range_with_len, get_or-range_with_len, IsPermutation-sym, IsPermutation-trans}
 use Rattle.lx_sheet.proofs.Imports.{IsPermutation-to_front, IsPermutation-append_left, IsPermutation-insert}
-use Rattle.lx_sheet.proofs.Imports.{IsPermutation-remove, All-permutation, length_permutation, CUES, eq_true, eq_below, Place, AreApart, IsBlock, IsPool, own_rows}
+use Rattle.lx_sheet.proofs.Imports.{IsPermutation-remove, All-permutation, length_permutation, CUES, eq_true}
+use Rattle.lx_sheet.proofs.Imports.{eq_below, Place, AreApart, IsBlock, IsPool, own_rows}
 use Rattle.lx_sheet.proofs.Imports.{row_at_place}
 use Rattle.std.specs.List.Sorted.{IsPermutation}
 use Rattle.std.proofs.lemmas.Bool.Decides.{nat_tests}
@@ -23,7 +24,8 @@ differ rows i k apart less within same =
     false≢true (sym (apart_from_distinct (λ a b. a == b) rows i k 0 apart.distinct less within)
     ∙ eq_true (get_or rows i 0) (get_or rows k 0) same)
 
-pub rows_differ : {n : ℕ} {levels : List ℕ} {order : List Place} (i k : ℕ) → IsBlock n levels order → i < length order → k < length order → i ≢ k
+pub rows_differ : {n : ℕ} {levels : List ℕ} {order : List Place} (i k : ℕ) → IsBlock n levels order → i < length order → k < length order
+    → i ≢ k
     → row_at_place order i ≢ row_at_place order k
 rows_differ {order = order} i k block low high other same =
     let long : length (own_rows order) ≡ length order = length-map order (λ (p : Place). p.row) in
@@ -121,6 +123,7 @@ pub range_apart : (n : ℕ) → n ≤ CUES → AreApart (range_with_len 0 n)
 range_apart n few =
     let long : length (range_with_len 0 n) ≡ n = length-range_with_len 0 n in record {
       distinct = IsDistinct-from_apart (λ a b. a == b) (range_with_len 0 n) (λ i j d less within.
-          rw (get_or-range_with_len 0 n i d (omega arith), get_or-range_with_len 0 n j d (omega arith)) (eq_below (0 + i) (0 + j) (omega arith)));
+          rw (get_or-range_with_len 0 n i d (omega arith), get_or-range_with_len 0 n j d (omega arith))
+          (eq_below (0 + i) (0 + j) (omega arith)));
       within = λ k d within. omega (arith, get_or-range_with_len 0 n k d (omega arith));
     }

@@ -38,7 +38,8 @@ pub last_up_to : {A : Type 0} (key f : A → ℕ) (n : ℕ) (xs : List A) → Is
     → option_map_or f (find (λ x. nat_le (key x) n) (reverse xs)) 0
     ≡ last_value (count_up_to n (map key xs)) (λ k. option_map_or f (slice_get xs k) 0)
 last_up_to key f n xs sorted =
-    rw (← find_last (λ x. nat_le (key x) n) xs, count_up_to-map key n xs, up_to_is_front key n xs sorted) (last_of_front f xs (count_up_to n (map key xs)))
+    rw (← find_last (λ x. nat_le (key x) n) xs, count_up_to-map key n xs, up_to_is_front key n xs sorted)
+    (last_of_front f xs (count_up_to n (map key xs)))
 
 pub numbers-rows_of : (channels : ℕ) (order : List Place) (levels : List ℕ)
     → map (λ r. r.number) (rows_of channels order levels) ≡ map (λ p. p.cue) order

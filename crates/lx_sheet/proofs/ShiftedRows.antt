@@ -4,7 +4,8 @@ use Rattle.lx_sheet.proofs.Imports.{inl, inr, arith, Option, cases_eq, cases_lt,
 use Rattle.lx_sheet.proofs.Imports.{length-append, length-map, length-take-le, map-append, append_assoc, take_at, drop_at, Cue, Show}
 use Rattle.lx_sheet.proofs.Imports.{IsStrictlySorted, entry_at, entries_below, entries_above, taken_out, new_cue, eq_true, eq_other, none_differs}
 use Rattle.lx_sheet.proofs.Imports.{below_and_above, split_there, Place, Marks, AreMarked, row_at_place, cell, IsMarkedFor, has_mark, level_after}
-use Rattle.lx_sheet.proofs.Imports.{tracked_on, IsRight, RowsFollow, FillsRows, IsPassed, IsLeft, [], ◌∷◌, option_map, with_cue, cue_of, slice_get-get_or, StandsAt}
+use Rattle.lx_sheet.proofs.Imports.{tracked_on, IsRight, RowsFollow, FillsRows, IsPassed, IsLeft}
+use Rattle.lx_sheet.proofs.Imports.{[], ◌∷◌, option_map, with_cue, cue_of, slice_get-get_or, StandsAt}
 use Rattle.std.specs.Option.{option_to_list}
 use Rattle.lx_sheet.proofs.LevelsAfter.{level_after-take}
 use Rattle.lx_sheet.proofs.MarkedRows.{AtPlaces, IsRemarked}
@@ -40,7 +41,8 @@ swapped front x y back {old} {new} {at} {a} {b} was now long wide now_wide = rec
   );
 }
 
-swapped-map : {A B : Type 0} (f : A → B) {old new : List A} {at a b : ℕ} → IsSwapped old new at a b → IsSwapped (map f old) (map f new) at a b
+swapped-map : {A B : Type 0} (f : A → B) {old new : List A} {at a b : ℕ} → IsSwapped old new at a b
+    → IsSwapped (map f old) (map f new) at a b
 swapped-map f {old} {new} {at} {a} {b} s = record {
   front = take-map f at old ∙ ap (map f) s.front ∙ sym (take-map f at new);
   back = drop-map f a old ∙ ap (map f) s.back ∙ sym (drop-map f b new);
@@ -49,7 +51,8 @@ swapped-map f {old} {new} {at} {a} {b} s = record {
   long = omega (arith, s.long, length-map old f, length-map new f);
 }
 
-in_front : {A : Type 0} {old new : List A} {at a b : ℕ} → IsSwapped old new at a b → (k : ℕ) (d : A) → k < at → get_or new k d ≡ get_or old k d
+in_front : {A : Type 0} {old new : List A} {at a b : ℕ} → IsSwapped old new at a b → (k : ℕ) (d : A) → k < at
+    → get_or new k d ≡ get_or old k d
 in_front {A} {old} {new} {at} s k d less = sym (get_or-take at new k d less) ∙ ap (λ (xs : List A). get_or xs k d) (sym s.front)
     ∙ get_or-take at old k d less
 
@@ -108,7 +111,8 @@ shifted {before} {show} {old} {new} {at} n a b x y is sorted cues_sorted front w
     let low = numbers_below key number old before.cues is.numbers n in
     let high = numbers_above key number old before.cues is.numbers n in
     let here : map key (own key n old) ≡ map number (own number n before.cues) = listed key (entry_at key n old)
-    ∙ ap (λ (o : Option ℕ). option_to_list o) (number_at key number old before.cues is.numbers n) ∙ sym (listed number (entry_at number n before.cues)) in
+    ∙ ap (λ (o : Option ℕ). option_to_list o) (number_at key number old before.cues is.numbers n)
+    ∙ sym (listed number (entry_at number n before.cues)) in
     let long : length (entries_below key n old) ≡ at = ap length (sym front) ∙ length-take-le at old within in
     record {
       rows = swapped-map (λ (p : Place). p.row)
@@ -146,7 +150,8 @@ module _ {before show : Show} {old new : List Place} {at a b : ℕ} (s : IsShift
   follows_on channels levels right k c least within here =
       let j : ℕ = k + a - b in
       right_behind channels levels (j + 1) (k + 1) c (omega arith) (omega arith) within (right (j + 1) c (omega (arith, s.cues.long)))
-      (sym (right j c (omega (arith, s.cues.long))) ∙ ap (λ r. cell channels levels r c) (sym (at_back s.rows j k 0 least (omega arith))) ∙ here)
+      (sym (right j c (omega (arith, s.cues.long))) ∙ ap (λ r. cell channels levels r c) (sym (at_back s.rows j k 0 least (omega arith)))
+      ∙ here)
 
   -- Once the rows from the place on are filled in, each row is right.
   all_right : (channels : ℕ) (levels filled : List ℕ) → ((k c : ℕ) → k < length before.cues → IsRight channels old before.cues levels k c)
@@ -158,7 +163,8 @@ module _ {before show : Show} {old new : List Place} {at a b : ℕ} (s : IsShift
       ∙ take-take (i + 1) at show.cues (omega arith)) in
       elim (cases_lt k at) [
         | inl less ↦ is.front k c less (omega (arith, order_length s.now, within)) ∙ front k c less
-        | inr more ↦ is.rows (λ x. last_right channels new show.cues levels x at (λ i less. front i x less)) (follows_on channels levels right)
+        | inr more ↦ is.rows (λ x. last_right channels new show.cues levels x at (λ i less. front i x less))
+            (follows_on channels levels right)
             k c more within
       ]
 
@@ -166,7 +172,8 @@ module _ {before show : Show} {old new : List Place} {at a b : ℕ} (s : IsShift
   marked_on : (channels : ℕ) (was marks : Marks) → AreMarked channels old before.cues was → IsRemarked channels new show.cues was marks at b
       → AreMarked channels new show.cues marks
   marked_on channels was marks right re k cue within is =
-      let stood : (j : ℕ) → row_at_place new k ≡ row_at_place old j → cue ≡ get_or before.cues j cue → j < length before.cues → (at ≤ k → b ≤ k)
+      let stood : (j : ℕ) → row_at_place new k ≡ row_at_place old j → cue ≡ get_or before.cues j cue → j < length before.cues
+      → (at ≤ k → b ≤ k)
       → IsMarkedFor channels marks (row_at_place new k) cue = λ j row held there other c least most decided.
       re.kept k c other (omega (arith, order_length s.now, within)) least most ∙ ap (λ r. has_mark was r c) row
       ∙ right j cue there held c least most decided in

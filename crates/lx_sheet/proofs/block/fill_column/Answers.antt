@@ -62,7 +62,8 @@ loop-place-preserved c =
       others = λ r x other. cell-set_other n c.loop-place.levels row r c.get.result x level least most
           (λ _ e. other (e ∙ is)) ∙ c.loop-place.invariant.others r x other;
       front = λ k less. others k (λ e. omega arith) (omega arith) ∙ c.loop-place.invariant.front k less;
-      back = λ k more inside. others k (λ e. omega (arith, e, more, c.loop-place-test.true)) (omega (arith, c.requires.places.places, inside))
+      back = λ k more inside. others k (λ e. omega (arith, e, more, c.loop-place-test.true))
+          (omega (arith, c.requires.places.places, inside))
           ∙ c.loop-place.invariant.back k (omega (arith, more, c.loop-place-test.true)) inside;
       rows = λ start k from below. elim (cases_eq k place) [
         | inl e ↦ rw e (here ∙ tracks start)
@@ -71,11 +72,20 @@ loop-place-preserved c =
     }
 
 pub overflow_mul-levels : goal.overflow_mul-levels
-overflow_mul-levels c = omega (arith, within_block c.own_row-row.result c.args.channels c.own_row-row.ensures.within, c.requires.places.block.few)
+overflow_mul-levels c = omega (
+  arith,
+  within_block c.own_row-row.result c.args.channels c.own_row-row.ensures.within,
+  c.requires.places.block.few,
+)
 
 pub bounds-levels-row : goal.bounds-levels-row
 bounds-levels-row c =
-    let there : c.loop-place.place < length c.args.order.now = omega (arith, c.loop-place-test.true, c.requires.to, c.requires.places.places) in
+    let there : c.loop-place.place < length c.args.order.now = omega (
+      arith,
+      c.loop-place-test.true,
+      c.requires.to,
+      c.requires.places.places,
+    ) in
     let end : (c.own_row-row.result + 1) * width c.args.channels ≤ length c.args.levels.now =
     rw c.own_row-row.ensures.row (covered_at c.loop-place.place c.requires.places.block there) in
     omega (arith, end, c.loop-place.auto.levels, c.get.ensures.value, c.get.ensures.least, c.requires.within)

@@ -21,19 +21,22 @@ returns-then-decides_none c = λ passed.
     (rows_differ k at c.requires.places.block within there other) in
     let idle : (x : ℕ) → level_after (take (at + 1) cues) x ≡ level_after (take at cues) x = λ x.
     level_after-take cues at c.index-cues-at.result x c.requires.at c.index-cues-at.is
-    ∙ ap (λ (b : Bool). cond b (level_in c.index-cues-at.result x) (level_after (take at cues) x)) (c.decides_none.ensures c.if-decides_none.true x) in
+    ∙ ap (λ (b : Bool). cond b (level_in c.index-cues-at.result x) (level_after (take at cues) x))
+    (c.decides_none.ensures c.if-decides_none.true x) in
     record {
       front = λ k x less within. others k x (λ e. omega arith) within;
       rows = λ start follows k chan least within. elim (cases_eq k at) [
         | inl e ↦ rw e (here chan ∙ c.recall.ensures chan ∙ start chan ∙ sym (idle chan))
         | inr apart ↦ others k chan apart (omega (arith, c.requires.places.places))
-            ∙ right_on n order cues levels (at + 1) (at + 1) chan follows (omega arith) (passed idle chan (omega arith)) k (omega arith) within
+            ∙ right_on n order cues levels (at + 1) (at + 1) chan follows (omega arith) (passed idle chan (omega arith)) k (omega arith)
+            within
       ];
     }
 
 pub write_row-requires-clause-room : goal.write_row-requires-clause-room
 write_row-requires-clause-room c =
-    rw (c.recall.auto.look, c.own_row.ensures.row) (covered_at c.args.at c.requires.places.block (omega (arith, c.requires.at, c.requires.places.places)))
+    rw (c.recall.auto.look, c.own_row.ensures.row) (covered_at c.args.at c.requires.places.block
+    (omega (arith, c.requires.at, c.requires.places.places)))
 
 pub fill_rows-requires : goal.fill_rows-requires
 fill_rows-requires c = record { places = rw c.recall.auto.look c.requires.places }

@@ -8,6 +8,7 @@ returns-else-not-holds c = λ left.
     record {
       front = λ k x less within. refl;
       rows = λ start follows k chan least within.
-          right_on (length c.args.look.now) c.args.order.now c.args.cues.now c.args.levels.now c.args.at c.args.at chan follows (omega arith)
+          right_on (length c.args.look.now) c.args.order.now c.args.cues.now c.args.levels.now c.args.at c.args.at chan follows
+          (omega arith)
           (left (λ x. held x ∙ c.recall.ensures x ∙ start x) chan (omega arith)) k least within;
     }

@@ -12,7 +12,8 @@ loop-group-preserved c =
     let words : List ℕ = c.loop-group.words in
     let at : c.place_of.result ≡ word_place groups row group = c.place_of.ensures in
     let next : List ℕ = set words c.place_of.result word in
-    let other : (r g : ℕ) → g < groups → (r ≡ row → g ≢ group) → get_or next (word_place groups r g) 0 ≡ get_or words (word_place groups r g) 0 =
+    let other : (r g : ℕ) → g < groups → (r ≡ row → g ≢ group) → get_or next (word_place groups r g) 0 ≡ get_or words
+    (word_place groups r g) 0 =
     λ r g low apart. rw at (word_other groups words row group word r g c.loop-group-test.true low apart) in
     record {
       here = λ g less. elim (cases_eq g group) [

@@ -24,7 +24,8 @@ write-requires-clause-moves c =
     let n : ℕ = length c.args.look.now in
     moves_within n (64 * c.reach-in-loop-place.new.self.groups) c.index-cues-place.result
     (omega (arith, c.requires.table.groups, c.loop-place.invariant.table.groups, c.reach-in-loop-place.ensures.table.groups))
-    (rw c.index-cues-place.is (All-from_recursion (ValidCue n) c.args.cues.now c.requires.valid c.loop-place.place _ c.loop-place-test.true))
+    (rw c.index-cues-place.is (All-from_recursion (ValidCue n) c.args.cues.now c.requires.valid c.loop-place.place _
+    c.loop-place-test.true))
 
 pub track-requires : goal.track-requires
 track-requires c = rw (c.loop-place.auto.look ∙ c.fill.auto.self, c.index-cues-place.is)
@@ -61,7 +62,8 @@ loop-place-preserved c =
       reach = λ r less. reached_grown r c.write.ensures.table (c.reach-in-loop-place.ensures.reach r less);
       marks = λ k x less is. elim (cases_eq k place) [
         | inl e ↦
-            let one : x ≡ cue = is ∙ get_or_default cues k x cue (omega arith) ∙ ap (λ i. get_or cues i cue) e ∙ sym c.index-cues-place.is in
+            let one : x ≡ cue = is ∙ get_or_default cues k x cue (omega arith) ∙ ap (λ i. get_or cues i cue) e
+            ∙ sym c.index-cues-place.is in
             rw (e, one) (λ chan least most. c.write.ensures.here chan least (omega (arith, most, wide)))
         | inr apart ↦ λ chan least most decided. c.write.ensures.others k chan apart least (omega (arith, most, wide))
             ∙ c.reach-in-loop-place.ensures.same k chan ∙ c.loop-place.invariant.marks k x (omega arith) is chan least most decided

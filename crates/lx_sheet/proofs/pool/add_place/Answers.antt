@@ -5,7 +5,8 @@ use Rattle.lx_sheet.proofs.pool.add_place.Goals as goal
 pub returns-in-Ok-insert-clause-kept : goal.returns-in-Ok-insert-clause-kept
 returns-in-Ok-insert-clause-kept c =
     let p : Place = record { cue = c.args.n; row = c.in_ok-row-in-Err.row } in record {
-      sorted = rw c.in-Ok-insert.ensures.items (sorted_added (λ (x : Place). x.cue) c.get.result c.as_slice.result.now c.args.order.now.items p c.in-Err.at
+      sorted = rw c.in-Ok-insert.ensures.items (sorted_added (λ (x : Place). x.cue) c.get.result c.as_slice.result.now
+          c.args.order.now.items p c.in-Err.at
           c.get.ensures.value c.as_slice.ensures.value c.in-Err.ensures.goes c.requires.sorted);
       pool = rw c.in-Ok-insert.ensures.items (pool_taken c.args.order.now.items c.pop.new.self.items c.in-Err.at p
           (rw c.in_ok-row-in-Err.ensures.items at c.requires.pool));

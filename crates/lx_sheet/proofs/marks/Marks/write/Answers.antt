@@ -5,7 +5,8 @@ use Rattle.lx_sheet.proofs.marks.Marks.write.Goals as goal
 pub returns-clause-here : goal.returns-clause-here
 unfolding has_mark
 returns-clause-here c = λ chan least most is.
-    rw (with_items_is c.args.self.now.words c.write_row.new.words (omega arith)) (ap (λ b. b == 1) (c.write_row.ensures.here chan least most is))
+    rw (with_items_is c.args.self.now.words c.write_row.new.words (omega arith))
+    (ap (λ b. b == 1) (c.write_row.ensures.here chan least most is))
 
 pub returns-clause-others : goal.returns-clause-others
 unfolding has_mark

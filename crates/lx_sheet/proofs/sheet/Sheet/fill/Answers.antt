@@ -37,7 +37,8 @@ fill_column-requires-clause-marks c =
     let is : IsOrderOf c.args.show.now c.self.inside.order.items = order_of c.self.inside.channels c.self.inside.levels.items
     c.self.invariant.kept.sorted (ap numbers_of c.self.view_is ∙ c.requires.numbers) in
     IfSome_then c.among-marks.result c.among-marks.ensures (λ m same. rw (same.0, c.cues-cues.ensures.cues, c.deref.ensures.value)
-    (tells c.args.chan is c.self.invariant.block c.self.invariant.marked (subst (IsMarked c.args.show.now) (sym c.self.view_is) (c.requires.marks same.1))
+    (tells c.args.chan is c.self.invariant.block c.self.invariant.marked (subst (IsMarked c.args.show.now) (sym c.self.view_is)
+    (c.requires.marks same.1))
     (omega (arith, c.get-2.ensures.value, c.get-2.ensures.least)) (omega (arith, c.get-2.ensures.value, c.if-get-self.true))))
 
 pub returns-then-get-self-clause-column : goal.returns-then-get-self-clause-column

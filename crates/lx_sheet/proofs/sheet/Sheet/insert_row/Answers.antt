@@ -31,8 +31,13 @@ own_row-row-requires-clause-place c = omega (
 
 pub fill_inserted-requires-clause-places : goal.fill_inserted-requires-clause-places
 fill_inserted-requires-clause-places c =
-    rw (ap length c.deref_mut-then-len-cues.ensures.value ∙ c.self.invariant.look_room, c.deref_mut.ensures.value, c.deref-then-len-cues.ensures.value) (record {
-      block = block_inserted c.in-Some.at c.args.n c.self.invariant.block c.add_place.ensures.kept.pool c.in-Some.ensures.added c.deref.ensures.value
+    rw (
+      ap length c.deref_mut-then-len-cues.ensures.value ∙ c.self.invariant.look_room,
+      c.deref_mut.ensures.value,
+      c.deref-then-len-cues.ensures.value,
+    ) (record {
+      block = block_inserted c.in-Some.at c.args.n c.self.invariant.block c.add_place.ensures.kept.pool c.in-Some.ensures.added
+          c.deref.ensures.value
           c.own_row-row.ensures.row c.reach.ensures.length;
       places = omega (arith, c.if-len-cues.true, c.len.ensures, c.add_place.new.order.ok);
       valid = rw (ap (λ (s : Sheet). s.channels) c.self.view_is ∙ c.requires, c.cues-cues.ensures.cues) c.cues-cues.ensures.valid.cues;
@@ -50,7 +55,8 @@ returns-then-len-cues c = λ before cue stands number absent now.
     let was : AtPlaces before channels old c.self.inside.levels.items c.self.inside.marks =
     at_places c.self.invariant.kept.sorted (rw c.self.view_is stands) in
     let stood : AtPlaces before channels old levels c.self.inside.marks = grown_places was c.reach.ensures.same in
-    let s : IsShifted before show old new at at (at + 1) = came _ cue stood c.add_place.ensures.kept.sorted c.cues-cues.ensures.valid.cues_sorted
+    let s : IsShifted before show old new at at (at + 1) = came _ cue stood c.add_place.ensures.kept.sorted
+    c.cues-cues.ensures.valid.cues_sorted
     c.in-Some.ensures.goes c.in-Some.ensures.added number now in
     let fills : FillsRows channels new show.cues levels filled at (at + 1) =
     (rw (
@@ -59,7 +65,8 @@ returns-then-len-cues c = λ before cue stands number absent now.
       c.cues-cues.ensures.cues,
       c.deref_mut.ensures.value,
     ) at c.fill_inserted.ensures) (passed s stood) in
-    let block = block_inserted at c.args.n c.self.invariant.block c.add_place.ensures.kept.pool c.in-Some.ensures.added c.deref.ensures.value
+    let block = block_inserted at c.args.n c.self.invariant.block c.add_place.ensures.kept.pool c.in-Some.ensures.added
+    c.deref.ensures.value
     c.own_row-row.ensures.row c.reach.ensures.length in
     rw (with_items_is c.reach.new.levels filled (omega arith))
     (stands_of (places_shifted s stood fills
@@ -75,7 +82,13 @@ returns-else-len-cues c = λ before cue stands number absent now.
     let was : AtPlaces before c.self.inside.channels c.self.inside.order.items c.self.inside.levels.items c.self.inside.marks =
     at_places c.self.invariant.kept.sorted (rw c.self.view_is stands) in
     let more = ap length c.in-Some.ensures.added ∙ length-insert c.self.inside.order.items c.in-Some.at _ c.in-Some.ensures.goes.within in
-    absurd (c.if-len-cues.false (omega (arith, c.add_place.new.order.ok, one_more cue was.is number absent now, more, ap length c.cues-cues.ensures.cues)))
+    absurd (c.if-len-cues.false (omega (
+      arith,
+      c.add_place.new.order.ok,
+      one_more cue was.is number absent now,
+      more,
+      ap length c.cues-cues.ensures.cues,
+    )))
 
 pub returns-in_default : goal.returns-in_default
 returns-in_default c = λ before cue stands number absent now.
@@ -84,7 +97,8 @@ returns-in_default c = λ before cue stands number absent now.
     absurd (omega (
       arith,
       c.add_place.ensures.none c.in_default.is
-          (absent_alike (λ (x : Cue). x.number) (λ (p : Place). p.cue) c.args.n before.cues c.self.inside.order.items (sym was.is.numbers) absent),
+          (absent_alike (λ (x : Cue). x.number) (λ (p : Place). p.cue) c.args.n before.cues c.self.inside.order.items (sym was.is.numbers)
+          absent),
       one_more cue was.is number absent now,
       c.cues-cues.ensures.valid.few_cues,
     ))
@@ -93,7 +107,8 @@ pub invariant_of-self : goal.invariant_of-self
 invariant_of-self c =
     let filled = ap length (with_items_is c.reach.new.levels c.fill_inserted.new.levels (omega arith)) in record {
       kept = c.add_place.ensures.kept;
-      block = block_longer (block_inserted c.in-Some.at c.args.n c.self.invariant.block c.add_place.ensures.kept.pool c.in-Some.ensures.added
+      block = block_longer (block_inserted c.in-Some.at c.args.n c.self.invariant.block c.add_place.ensures.kept.pool
+          c.in-Some.ensures.added
           c.deref.ensures.value c.own_row-row.ensures.row c.reach.ensures.length) (omega (arith, filled));
       level_room = omega (arith, c.reach.ensures.room, c.self.invariant.level_room);
       look_room = omega (arith, length_refill c.self.inside.look.len c.self.inside.look.items c.fill_inserted.new.look (omega arith));
@@ -104,7 +119,8 @@ invariant_of-self c =
 pub invariant_of-self-else-len-cues : goal.invariant_of-self-else-len-cues
 invariant_of-self-else-len-cues c = record {
   kept = c.add_place.ensures.kept;
-  block = block_inserted c.in-Some.at c.args.n c.self.invariant.block c.add_place.ensures.kept.pool c.in-Some.ensures.added c.deref.ensures.value
+  block = block_inserted c.in-Some.at c.args.n c.self.invariant.block c.add_place.ensures.kept.pool c.in-Some.ensures.added
+      c.deref.ensures.value
       c.own_row-row.ensures.row c.reach.ensures.length;
   level_room = omega (arith, c.reach.ensures.room, c.self.invariant.level_room);
   look_room = c.self.invariant.look_room;
@@ -113,7 +129,12 @@ invariant_of-self-else-len-cues c = record {
 }
 
 pub invariant_of-self-in_default : goal.invariant_of-self-in_default
-invariant_of-self-in_default c = assumption (c.self.invariant, c.add_place.ensures.kept, rw (← c.add_place.ensures.same c.in_default.is) at c.self.invariant.block)
+invariant_of-self-in_default c = assumption (
+  c.self.invariant,
+  c.add_place.ensures.kept,
+  rw (← c.add_place.ensures.same c.in_default.is) at
+      c.self.invariant.block,
+)
 
 pub bounds-cues-at : goal.bounds-cues-at
 bounds-cues-at c = omega (

@@ -9,7 +9,8 @@ use Rattle.lx_sheet.proofs.sheet.Sheet.level_near.Goals as goal
 pub returns-then-at-self-clause-level : goal.returns-then-at-self-clause-level
 returns-then-at-self-clause-level c =
     let past : c.self.inside.channels < c.args.c = omega (arith, c.get.ensures.value, c.get.ensures.least) in
-    sym (level_of_past c.self.inside.channels c.self.inside.order.items c.self.inside.levels.items c.args.n c.args.c c.self.invariant.kept.sorted
+    sym (level_of_past c.self.inside.channels c.self.inside.order.items c.self.inside.levels.items c.args.n c.args.c
+    c.self.invariant.kept.sorted
     past) ∙ ap (λ (s : Sheet). level_of s c.args.n c.args.c) c.self.view_is
 
 pub returns-then-at-self-clause-stands : goal.returns-then-at-self-clause-stands

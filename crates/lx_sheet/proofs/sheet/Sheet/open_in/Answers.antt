@@ -5,9 +5,11 @@ use Rattle.lx_sheet.proofs.sheet.Sheet.open_in.Goals as goal
 pub invariant_of-sheet : goal.invariant_of-sheet
 invariant_of-sheet g c =
     let none : c.in_ok-room.field-0.items ≡ [] = c.in_ok-room.ensures.items in
-    let pool = listed_pool c.in_ok-room.field-0.items c.list_free.new.free.items [] (CUES - 0) none c.list_free.ensures.free (omega arith) in record {
+    let pool = listed_pool c.in_ok-room.field-0.items c.list_free.new.free.items [] (CUES - 0) none c.list_free.ensures.free
+    (omega arith) in record {
       kept = record { sorted = rw none tt; pool = pool; row_room = search rules; free_room = search rules };
-      block = block_listed [] (omega (arith, c.channels-channels.ensures.channels, c.channels-channels.ensures.valid.channels.most)) pool none
+      block = block_listed [] (omega (arith, c.channels-channels.ensures.channels, c.channels-channels.ensures.valid.channels.most)) pool
+          none
           (omega arith);
       level_room = search rules;
       look_room = c.in_ok-filled.ensures.long;

@@ -20,7 +20,8 @@ gone {before} {at = at} {n} stood sorted cues_sorted stands dropped now =
 
 pub fill_removed-requires-clause-places : goal.fill_removed-requires-clause-places
 fill_removed-requires-clause-places c =
-    rw (ap length c.deref_mut-then-len-cues.ensures.value ∙ c.self.invariant.look_room, c.deref_mut.ensures.value, c.deref.ensures.value) (record {
+    rw (ap length c.deref_mut-then-len-cues.ensures.value ∙ c.self.invariant.look_room, c.deref_mut.ensures.value, c.deref.ensures.value)
+    (record {
       block = block_removed c.in-Some.freed.at c.self.invariant.block c.drop_place.ensures.kept.pool c.in-Some.ensures.dropped
           c.in-Some.ensures.stands.within;
       places = omega (arith, c.if-len-cues.true, c.len.ensures, c.drop_place.new.order.ok);
@@ -29,7 +30,8 @@ fill_removed-requires-clause-places c =
 
 pub fill_removed-requires-clause-row : goal.fill_removed-requires-clause-row
 fill_removed-requires-clause-row c =
-    rw c.in-Some.ensures.row (row_within c.self.inside.order.items c.in-Some.freed.at c.self.invariant.block.apart c.in-Some.ensures.stands.within)
+    rw c.in-Some.ensures.row (row_within c.self.inside.order.items c.in-Some.freed.at c.self.invariant.block.apart
+    c.in-Some.ensures.stands.within)
 
 pub fill_removed-requires-clause-left : goal.fill_removed-requires-clause-left
 fill_removed-requires-clause-left c =
@@ -45,7 +47,8 @@ returns-then-len-cues c = λ before stands now.
     let new : List Place = c.drop_place.new.order.items in
     let levels : List ℕ = c.self.inside.levels.items in
     let filled : List ℕ = c.fill_removed.new.levels in
-    let stood : AtPlaces before channels old levels c.self.inside.marks = at_places c.self.invariant.kept.sorted (rw c.self.view_is stands) in
+    let stood : AtPlaces before channels old levels c.self.inside.marks = at_places c.self.invariant.kept.sorted
+    (rw c.self.view_is stands) in
     let s : IsShifted before show old new at (at + 1) at = gone stood c.drop_place.ensures.kept.sorted c.cues-cues.ensures.valid.cues_sorted
     c.in-Some.ensures.stands c.in-Some.ensures.dropped now in
     let fills : FillsRows channels new show.cues levels filled at at =
@@ -62,7 +65,8 @@ pub returns-else-len-cues : goal.returns-else-len-cues
 returns-else-len-cues c = λ before stands now.
     let stood : AtPlaces before c.self.inside.channels c.self.inside.order.items c.self.inside.levels.items c.self.inside.marks =
     at_places c.self.invariant.kept.sorted (rw c.self.view_is stands) in
-    let s : IsShifted before c.args.show.now c.self.inside.order.items c.drop_place.new.order.items c.in-Some.freed.at (c.in-Some.freed.at + 1)
+    let s : IsShifted before c.args.show.now c.self.inside.order.items c.drop_place.new.order.items c.in-Some.freed.at
+    (c.in-Some.freed.at + 1)
     c.in-Some.freed.at = gone stood c.drop_place.ensures.kept.sorted c.cues-cues.ensures.valid.cues_sorted c.in-Some.ensures.stands
     c.in-Some.ensures.dropped now in
     absurd (c.if-len-cues.false (omega (arith, c.drop_place.new.order.ok, order_length s.now, ap length c.cues-cues.ensures.cues)))
@@ -92,8 +96,14 @@ pub invariant_of-self-else-len-cues : goal.invariant_of-self-else-len-cues
 invariant_of-self-else-len-cues c = assumption (
   c.self.invariant,
   c.drop_place.ensures.kept,
-  block_removed c.in-Some.freed.at c.self.invariant.block c.drop_place.ensures.kept.pool c.in-Some.ensures.dropped c.in-Some.ensures.stands.within,
+  block_removed c.in-Some.freed.at c.self.invariant.block c.drop_place.ensures.kept.pool c.in-Some.ensures.dropped
+      c.in-Some.ensures.stands.within,
 )
 
 pub invariant_of-self-in_default : goal.invariant_of-self-in_default
-invariant_of-self-in_default c = assumption (c.self.invariant, c.drop_place.ensures.kept, rw (← c.drop_place.ensures.none c.in_default.is) at c.self.invariant.block)
+invariant_of-self-in_default c = assumption (
+  c.self.invariant,
+  c.drop_place.ensures.kept,
+  rw (← c.drop_place.ensures.none c.in_default.is)
+      at c.self.invariant.block,
+)

@@ -9,7 +9,8 @@ use Rattle.lx_sheet.proofs.ShiftedRows.{IsShifted, cut, own, own_there, placed_t
 use Rattle.lx_sheet.proofs.sheet.Sheet.replace_row.Goals as goal
 
 exchanged : {before show : Show} {old : List Place} {at n channels : ℕ} {levels : List ℕ} {marks : Marks} (cue : Cue)
-    → AtPlaces before channels old levels marks → IsStrictlySorted (λ c. c.number) show.cues → StandsAt (λ p. p.cue) n old at → cue.number ≡ n
+    → AtPlaces before channels old levels marks → IsStrictlySorted (λ c. c.number) show.cues → StandsAt (λ p. p.cue) n old at
+    → cue.number ≡ n
     → show ≡ with_cue before cue → IsShifted before show old old at (at + 1) (at + 1)
 exchanged {before} {old = old} {at} {n} cue stood cues_sorted stands number now =
     let d : Place = record { cue = 0; row = 0 } in
@@ -27,7 +28,12 @@ own_row-requires-clause-rows c = rw c.as_slice-order.ensures.value c.self.invari
 
 pub write-requires-clause-reach : goal.write-requires-clause-reach
 write-requires-clause-reach c = c.self.invariant.marked.reached c.own_row.result (rw (c.own_row.ensures.row, c.as_slice-order.ensures.value)
-    (covered_at c.in-Ok.place c.self.invariant.block (omega (arith, c.in-Ok.ensures.stands.within, ap length c.as_slice-order.ensures.value))))
+    (covered_at c.in-Ok.place c.self.invariant.block (omega (
+      arith,
+      c.in-Ok.ensures.stands.within,
+      ap length
+          c.as_slice-order.ensures.value,
+    ))))
 
 pub fill_from-requires-clause-places : goal.fill_from-requires-clause-places
 fill_from-requires-clause-places c =
@@ -45,9 +51,12 @@ returns-then-order-cues c = λ before cue stands number there now.
     let order : List Place = c.self.inside.order.items in
     let levels : List ℕ = c.self.inside.levels.items in
     let filled : List ℕ = c.fill_from.new.levels in
-    let stood : AtPlaces before channels order levels c.self.inside.marks = at_places c.self.invariant.kept.sorted (rw c.self.view_is stands) in
-    let place : StandsAt (λ p. p.cue) c.args.n order at = rw (c.get.ensures.value, c.as_slice-order.ensures.value) at c.in-Ok.ensures.stands in
-    let s : IsShifted before show order order at (at + 1) (at + 1) = exchanged cue stood c.cues-cues.ensures.valid.cues_sorted place number now in
+    let stood : AtPlaces before channels order levels c.self.inside.marks = at_places c.self.invariant.kept.sorted
+    (rw c.self.view_is stands) in
+    let place : StandsAt (λ p. p.cue) c.args.n order at = rw (c.get.ensures.value, c.as_slice-order.ensures.value) at
+    c.in-Ok.ensures.stands in
+    let s : IsShifted before show order order at (at + 1) (at + 1) = exchanged cue stood c.cues-cues.ensures.valid.cues_sorted place number
+    now in
     let fills : FillsRows channels order show.cues levels filled at (at + 1) =
     rw (
       ap length c.deref_mut-then-order-cues.ensures.value ∙ c.self.invariant.look_room,
@@ -71,7 +80,13 @@ returns-else-order-cues c = λ before cue stands number there now.
     let s : IsShifted before c.args.show.now order order c.in-Ok.place (c.in-Ok.place + 1) (c.in-Ok.place + 1) =
     exchanged cue stood c.cues-cues.ensures.valid.cues_sorted
     (rw (c.get.ensures.value, c.as_slice-order.ensures.value) at c.in-Ok.ensures.stands) number now in
-    absurd (c.if-order-cues.false (omega (arith, order_length s.now, ap length c.as_slice-order.ensures.value, ap length c.cues-cues.ensures.cues)))
+    absurd (c.if-order-cues.false (omega (
+      arith,
+      order_length s.now,
+      ap length c.as_slice-order.ensures.value,
+      ap length
+          c.cues-cues.ensures.cues,
+    )))
 
 pub returns-in_default : goal.returns-in_default
 returns-in_default c = λ before cue stands number there now.

@@ -15,7 +15,12 @@ pub returns-in-Ok-clause-row : goal.returns-in-Ok-clause-row
 returns-in-Ok-clause-row c =
     let place : StandsAt (λ p. p.cue) c.args.n c.self.inside.order.items c.in-Ok.at =
     rw (c.get.ensures.value, c.as_slice-order.ensures.value) at c.in-Ok.ensures.stands in
-    rw (width_of c.own_row-row.result c.self.inside.channels, c.deref.ensures.value, c.own_row-row.ensures.row, c.as_slice-order.ensures.value)
+    rw (
+      width_of c.own_row-row.result c.self.inside.channels,
+      c.deref.ensures.value,
+      c.own_row-row.ensures.row,
+      c.as_slice-order.ensures.value,
+    )
     (row_found c.self.inside.channels c.self.inside.levels.items place)
     ∙ ap (λ (s : Sheet). option_map (λ row. row.levels) (row_at s c.args.n)) c.self.view_is
 
@@ -23,7 +28,12 @@ pub returns-in-Ok-clause-stands : goal.returns-in-Ok-clause-stands
 returns-in-Ok-clause-stands c = λ show stands.
     let place : StandsAt (λ p. p.cue) c.args.n c.self.inside.order.items c.in-Ok.at =
     rw (c.get.ensures.value, c.as_slice-order.ensures.value) at c.in-Ok.ensures.stands in
-    rw (width_of c.own_row-row.result c.self.inside.channels, c.deref.ensures.value, c.own_row-row.ensures.row, c.as_slice-order.ensures.value)
+    rw (
+      width_of c.own_row-row.result c.self.inside.channels,
+      c.deref.ensures.value,
+      c.own_row-row.ensures.row,
+      c.as_slice-order.ensures.value,
+    )
     (cue_found {show = show} c.self.inside.marks c.self.invariant.block c.self.invariant.kept.sorted place (rw c.self.view_is stands))
 
 pub returns-in-Err-clause-row : goal.returns-in-Err-clause-row
@@ -40,4 +50,8 @@ returns-in-Err-clause-stands c = λ show stands.
     (rw (c.get.ensures.value, c.as_slice-order.ensures.value) at c.in-Err.ensures.goes.absent)
 
 pub overflow_mul-start : goal.overflow_mul-start
-overflow_mul-start c = omega (arith, within_block c.own_row-row.result c.self.inside.channels c.own_row-row.ensures.within, c.self.invariant.block.few)
+overflow_mul-start c = omega (
+  arith,
+  within_block c.own_row-row.result c.self.inside.channels c.own_row-row.ensures.within,
+  c.self.invariant.block.few,
+)
