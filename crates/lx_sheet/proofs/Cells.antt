@@ -2,9 +2,10 @@
 use Rattle.lx_sheet.proofs.Imports.{◌≡◌, ◌≢◌, ℕ, zero, suc, ◌+◌, ◌-◌, ◌*◌, ◌<◌, ◌≤◌, List, ◌∷◌, length, get_or, set}
 use Rattle.lx_sheet.proofs.Imports.{take, drop, refl, ◌∙◌, sym, ap, subst, inl, inr, arith, mul-le-mul_right, cases_lt, cases_order, get_or-take}
 use Rattle.lx_sheet.proofs.Imports.{get_or-drop, get_or_past, get_or-set_same, get_or-set_other, length-take, drop-take, Agree, level_in_look, last_value}
-use Rattle.lx_sheet.proofs.Imports.{width}
+use Rattle.lx_sheet.proofs.Imports.{CUES, width}
 use borrow.Rule.Slice.PartMut.{put_mid}
 use Rattle.std.proofs.lemmas.Slice.{between-put_mid, take-put_mid_below, drop-put_mid}
+use Rattle.std.proofs.lemmas.Nat.{same_from_place}
 use Rattle.lx_sheet.specs.Block.{cell}
 
 one_below : (c : ℕ) → 1 ≤ c → suc (c - 1) ≡ c
@@ -46,35 +47,21 @@ pub cell_zero : (channels : ℕ) (levels : List ℕ) (k : ℕ) → cell channels
 unfolding cell
 cell_zero channels levels k = refl
 
-apart_rows : (channels i k a b : ℕ) → i < k → a < channels → b < channels → i * channels + a ≡ k * channels + b → ⊥
-apart_rows channels i k a b less within within' same =
-    let more : suc i * channels ≤ k * channels = mul-le-mul_right channels (omega arith) in
-    omega arith
-
 -- two places of the block are one only at one row and channel
 pub places_apart : (channels i k a b : ℕ) → a < channels → b < channels → i * channels + a ≡ k * channels + b → (i ≡ k) × (a ≡ b)
-places_apart channels i k a b within within' same =
-    elim (cases_order i k) [
-      | inl here ↦ (
-        here,
-        let e : k * channels + a ≡ k * channels + b =
-            subst (λ n. n * channels + a ≡ k * channels + b) here same in omega arith,
-      )
-      | inr other ↦ elim other [
-        | inl less ↦ absurd (apart_rows channels i k a b less within within' same)
-        | inr more ↦ absurd (apart_rows channels k i b a more within' within (sym same))
-      ]
-    ]
+places_apart channels i k a b = same_from_place i a k b channels
 
 -- a level written into the block
 pub cell-set_here : (channels : ℕ) (levels : List ℕ) (k c level : ℕ) → 1 ≤ c → c ≤ channels → k * width channels + (c - 1) < length levels
     → cell channels (set levels (k * width channels + (c - 1)) level) k c ≡ level
-cell-set_here channels levels k c level least most within = cell_is channels (set levels (k * width channels + (c - 1)) level) k c least most
+cell-set_here channels levels k c level least most within = cell_is channels (set levels (k * width channels + (c - 1)) level) k c least
+    most
     ∙ get_or-set_same levels (k * width channels + (c - 1)) level 0 within
 
 pub cell-set_other : (channels : ℕ) (levels : List ℕ) (k i chan c level : ℕ) → 1 ≤ chan → chan ≤ channels → (i ≡ k → c ≡ chan → ⊥)
     → cell channels (set levels (k * width channels + (chan - 1)) level) i c ≡ cell channels levels i c
-cell-set_other channels levels k i chan zero level least most other = cell_zero channels (set levels (k * width channels + (chan - 1)) level) i
+cell-set_other channels levels k i chan zero level least most other = cell_zero channels (set levels (k * width channels + (chan - 1))
+    level) i
     ∙ sym (cell_zero channels levels i)
 cell-set_other channels levels k i chan (suc c) level least most other =
     elim (cases_lt channels (suc c)) [
@@ -82,19 +69,23 @@ cell-set_other channels levels k i chan (suc c) level least most other =
           ∙ sym (cell_past channels levels i (suc c) past)
       | inr within ↦
           let apart : i * width channels + (suc c - 1) ≢ k * width channels + (chan - 1) = λ same. let both =
-          places_apart (width channels) i k (suc c - 1) (chan - 1) (omega arith) (omega arith) same in other both.0 (omega (arith, both.1)) in
+          places_apart (width channels) i k (suc c - 1) (chan - 1) (omega arith) (omega arith) same in other both.0
+          (omega (arith, both.1)) in
           cell_is channels (set levels (k * width channels + (chan - 1)) level) i (suc c) (omega arith) within
           ∙ get_or-set_other levels (k * width channels + (chan - 1)) (i * width channels + (suc c - 1)) level 0 apart
           ∙ sym (cell_is channels levels i (suc c) (omega arith) within)
     ]
 
 -- a row written into the block
-pub row_here : (channels : ℕ) (levels look : List ℕ) (place end : ℕ) → end ≡ place * width channels + channels → place * width channels ≤ length levels
-    → length look ≡ channels → take channels (drop (place * width channels) (put_mid (place * width channels) (end - place * width channels) levels look))
+pub row_here : (channels : ℕ) (levels look : List ℕ) (place end : ℕ) → end ≡ place * width channels + channels
+    → place * width channels ≤ length levels
+    → length look ≡ channels → take channels (drop (place * width channels) (put_mid (place * width channels)
+    (end - place * width channels) levels look))
     ≡ look
 row_here channels levels look place end is within long =
     let whole : end - place * width channels ≡ channels = omega arith in
-    let P : ℕ → Type 0 = λ n. take n (drop (place * width channels) (put_mid (place * width channels) (end - place * width channels) levels look)) ≡ look in
+    let P : ℕ → Type 0 = λ n. take n (drop (place * width channels) (put_mid (place * width channels) (end - place * width channels) levels
+    look)) ≡ look in
     subst P whole (between-put_mid (place * width channels) (end - place * width channels) levels look end within (omega arith))
 
 pub row_other : (channels : ℕ) (levels look : List ℕ) (k place end : ℕ) → end ≡ place * width channels + channels
@@ -109,13 +100,15 @@ row_other channels levels look k place end is within long other =
             let below : k * width channels + channels ≤ place * width channels = let m =
             mul-le-mul_right {m = suc k} {n = place} (width channels) (omega arith) in omega (arith, m) in
             sym (drop-take (k * width channels) channels (put_mid (place * width channels) (end - place * width channels) levels look))
-            ∙ ap (drop (k * width channels)) (take-put_mid_below (place * width channels) (end - place * width channels) levels look (k * width channels + channels)
+            ∙ ap (drop (k * width channels)) (take-put_mid_below (place * width channels) (end - place * width channels) levels look
+            (k * width channels + channels)
             below within)
             ∙ drop-take (k * width channels) channels levels
         | inr more ↦
             let above : place * width channels + channels ≤ k * width channels = let m =
             mul-le-mul_right {m = suc place} {n = k} (width channels) (omega arith) in omega (arith, m) in
-            ap (take channels) (drop-put_mid (place * width channels) (end - place * width channels) levels look (k * width channels) (omega arith) within
+            ap (take channels) (drop-put_mid (place * width channels) (end - place * width channels) levels look (k * width channels)
+            (omega arith) within
             (omega arith))
       ]
     ]
@@ -137,3 +130,7 @@ same_look a b long agree (suc k) =
       | inl within ↦ agree k (omega arith) within
       | inr past ↦ get_or_past a k 0 past ∙ sym (get_or_past b k 0 (omega arith))
     ]
+
+-- a row of the block begins below its end
+pub within_block : (row channels : ℕ) → row < CUES → row * width channels ≤ CUES * width channels
+within_block row channels within = mul-le-mul_right {m = row} {n = CUES} (width channels) (omega (arith, within))

@@ -1,14 +1,15 @@
 -- What the proofs of this crate import from its specs and from other crates. It declares nothing.
 pub use Rattle.std.proofs.Common.{[], ℕ, ◌%◌, ◌&&◌, ◌*◌, ◌++◌, ◌+◌, ◌-◌, ◌/◌, ◌<◌, ◌==◌, ◌||◌, ◌∙◌, ◌∷◌}
-pub use Rattle.std.proofs.Common.{◌≡◌, ◌≢◌, ◌≤◌, ap, append_assoc, arith, below_more, below_none, bit_or, Bool, cond, drop, drop-drop}
+pub use Rattle.std.proofs.Common.{◌≡◌, ◌≢◌, ◌≤◌, add-one, ap, append_assoc, arith, below_more, below_none, bit_or, Bool, cond, drop, drop-drop}
 pub use Rattle.std.proofs.Common.{drop_at, false, filter, find, get_or, get_or-drop, get_or-set_other, get_or-set_same, get_or-take, IfSome, inl, inr, insert}
 pub use Rattle.std.proofs.Common.{is_some, length, length-append, length-drop, length-take, length-take-le, List, map, max, min, nat_le, nat_lt, None, not}
 pub use Rattle.std.proofs.Common.{Option, option_map, refl, remove, replicate, reverse, rules, set, slice_get, slice_index, slice_index_or, Some, subst, suc}
 pub use Rattle.std.proofs.Common.{sym, take, take-take, take_all, take_at, true, vec_capacity, vec_len, w64, zero}
 pub use Rattle.lx_base.specs.Rows.{Agree}
-pub use Rattle.lx_base.specs.declared.TheConstants.{CUES}
+pub use Rattle.lx_base.specs.declared.TheConstants.{CHANNELS, CUES}
 pub use Rattle.lx_sheet.specs.After.{FillsRows, IsDecision, IsEnd, IsLeft, IsPassed, IsRight, level_after, RowsFollow, tracked_on}
-pub use Rattle.lx_sheet.specs.Block.{AreApart, AreMarked, cell, count_under, Covers, cue_level, IsPool, last_value, level_in_look, marks_of, own_rows}
+pub use Rattle.lx_sheet.specs.Block.{AreApart, AreMarked, cell, count_under, Covers, cue_level, HasPlaces}
+pub use Rattle.lx_sheet.specs.Block.{HoldsMarks, IsBlock, IsOrder, IsPool, last_value, level_in_look, marks_of, own_rows}
 pub use Rattle.lx_sheet.specs.Block.{placed_from, row_at_place, rows_of, width}
 pub use Rattle.lx_sheet.specs.Marks.{has_mark, IsGrown, IsMarkedFor, IsMarkTable, IsReached, Tells}
 pub use Rattle.lx_sheet.specs.Rows.{CueMarks, is_marked, level_by, level_in_row, level_of, numbers_of, Row, row_at, Sheet}

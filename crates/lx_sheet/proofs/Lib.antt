@@ -1,6 +1,5 @@
 pub mod Cells
 pub mod BlockReach
-pub mod EditedShows
 pub mod FilledColumns
 pub mod Found
 pub mod LevelsAfter
@@ -8,6 +7,7 @@ pub mod ListedRows
 pub mod MarkedRows
 pub mod MarkWords
 pub mod Moves
+pub mod Numbers
 pub mod Past
 pub mod RowPool
 pub mod RightRows

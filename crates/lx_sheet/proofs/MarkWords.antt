@@ -1,6 +1,6 @@
 -- The words of marks, each at its place, and the bits that are set in them.
 use Rattle.lx_sheet.proofs.Imports.{◌≡◌, ℕ, suc, zero, ◌+◌, ◌*◌, ◌/◌, ◌%◌, ◌<◌, ◌≤◌, true, List, [], ◌∷◌, length}
-use Rattle.lx_sheet.proofs.Imports.{get_or, set, ◌∙◌, sym, ap, subst, inl, inr, arith, bit_or, bit_at, cases_eq, false≢true, get_or-map}
+use Rattle.lx_sheet.proofs.Imports.{get_or, set, ap, subst, inl, inr, arith, bit_or, bit_at, cases_eq, false≢true, get_or-map}
 use Rattle.lx_sheet.proofs.Imports.{get_or-set_same, get_or-set_other, length-map, All, All-from_recursion, All-map, bit_at_or, bit_at-lt, Move, InRange}
 use Rattle.lx_sheet.proofs.Imports.{IsStrictlySorted, has_entry, eq_other, bit_of, chan_at, group_of, row_bit, word_place}
 use Rattle.std.proofs.lemmas.Nat.{same_from_place}
@@ -40,14 +40,9 @@ bit_kept groups words row group bits c within reach low is =
     let word : ℕ = bit_or (get_or words (word_place groups row group) 0) bits in
     elim (cases_eq (group_of c) group) [
       | inl here ↦
-          let P : ℕ → Type 0 = λ g. bit_at (get_or (set words (word_place groups row group) word) (word_place groups row g) 0) (bit_of c) ≡ 1 in
-          subst P (sym here)
-          (ap (λ w. bit_at w (bit_of c)) (get_or-set_same words (word_place groups row group) word 0
-          (place_within groups row group (length words) within reach))
-          ∙ bit_left (get_or words (word_place groups row group) 0) bits (bit_of c)
-          (subst (λ g. bit_at (get_or words (word_place groups row g) 0) (bit_of c) ≡ 1) here is))
-      | inr apart ↦
-          ap (λ w. bit_at w (bit_of c)) (word_other groups words row group word row (group_of c) within low (λ _ e. apart e)) ∙ is
+          rw (here, get_or-set_same words (word_place groups row group) word 0 (place_within groups row group (length words) within reach))
+          (bit_left (get_or words (word_place groups row group) 0) bits (bit_of c) (rw here at is))
+      | inr apart ↦ rw (word_other groups words row group word row (group_of c) within low (λ _ e. apart e)) is
     ]
 
 -- and set those
@@ -56,11 +51,8 @@ pub bit_added : (groups : ℕ) (words : List ℕ) (row group bits c : ℕ) → g
     → row_bit groups (set words (word_place groups row group) (bit_or (get_or words (word_place groups row group) 0) bits)) row c ≡ 1
 bit_added groups words row group bits c within reach here is =
     let word : ℕ = bit_or (get_or words (word_place groups row group) 0) bits in
-    let P : ℕ → Type 0 = λ g. bit_at (get_or (set words (word_place groups row group) word) (word_place groups row g) 0) (bit_of c) ≡ 1 in
-    subst P (sym here)
-    (ap (λ w. bit_at w (bit_of c)) (get_or-set_same words (word_place groups row group) word 0
-    (place_within groups row group (length words) within reach))
-    ∙ bit_right (get_or words (word_place groups row group) 0) bits (bit_of c) is)
+    rw (here, get_or-set_same words (word_place groups row group) word 0 (place_within groups row group (length words) within reach))
+    (bit_right (get_or words (word_place groups row group) 0) bits (bit_of c) is)
 
 -- the channel of the move that is read at an index
 pub chan_is : (moves : List Move) (k : ℕ) (m : Move) → k < length moves → chan_at moves k ≡ (get_or moves k m).chan

@@ -1,6 +1,6 @@
 -- The moves of a cue placed one after another.
-use Rattle.lx_sheet.proofs.Imports.{◌≡◌, ◌≢◌, ℕ, zero, suc, ◌+◌, ◌-◌, ◌<◌, ◌≤◌, Bool, List, [], ◌∷◌, length, get_or, set}
-use Rattle.lx_sheet.proofs.Imports.{drop, Some, ◌∙◌, sym, ap, inl, inr, arith, subst, Option, cond, AllByRecursion, option_map_or, cases_eq, drop_more}
+use Rattle.lx_sheet.proofs.Imports.{◌≡◌, ℕ, zero, suc, ◌+◌, ◌-◌, ◌<◌, ◌≤◌, List, [], ◌∷◌, length, get_or, set}
+use Rattle.lx_sheet.proofs.Imports.{drop, ◌∙◌, sym, ap, inl, inr, arith, subst, AllByRecursion, option_map_or, cases_eq, drop_more}
 use Rattle.lx_sheet.proofs.Imports.{Move, InRange, IsStrictlySorted, entry_at, level_in_look, eq_above, eq_other, eq_true, each, find_none}
 use Rattle.lx_sheet.proofs.Imports.{IsStrictlySorted-drop}
 use Rattle.lx_sheet.proofs.Cells.{level_in_look-set, level_in_look-other}
@@ -8,14 +8,6 @@ use Rattle.lx_sheet.proofs.Cells.{level_in_look-set, level_in_look-other}
 -- the level that the moves set, or the one before
 abbrev pub level_placed : List Move → ℕ → ℕ → ℕ
 level_placed moves c before = option_map_or (λ m. m.level) (entry_at (λ m. m.chan) c moves) before
-
-first_placed : (m : Move) (moves : List Move) (c before : ℕ) → m.chan ≡ c → level_placed (m ∷ moves) c before ≡ m.level
-first_placed m moves c before same = ap (λ (b : Bool). option_map_or (λ x. x.level) (cond b (Some m) (entry_at (λ x. x.chan) c moves))
-    before) (eq_true m.chan c same)
-
-first_other : (m : Move) (moves : List Move) (c before : ℕ) → m.chan ≢ c → level_placed (m ∷ moves) c before ≡ level_placed moves c before
-first_other m moves c before other = ap (λ (b : Bool). option_map_or (λ x. x.level) (cond b (Some m) (entry_at (λ x. x.chan) c moves))
-    before) (eq_other m.chan c other)
 
 -- one move more is placed: what those behind it make of the levels is the same as before
 pub move_placed : (moves : List Move) (look before : List ℕ) (i chan : ℕ) (m : Move) → IsStrictlySorted (λ x. x.chan) moves
@@ -27,15 +19,11 @@ move_placed moves look before i chan m sorted within is same least most placed c
     let seam : drop i moves ≡ m ∷ rest = drop_more moves i m within ∙ ap (λ (x : Move). x ∷ rest) (sym is) in
     let rising : IsStrictlySorted (λ (x : Move). x.chan) (m ∷ rest) =
     subst (IsStrictlySorted (λ (x : Move). x.chan)) seam (IsStrictlySorted-drop (λ (x : Move). x.chan) i moves sorted) in
-    let was : level_placed (drop i moves) c (level_in_look look c) ≡ level_placed (m ∷ rest) c (level_in_look look c) =
-    ap (λ (ms : List Move). level_placed ms c (level_in_look look c)) seam in
     elim (cases_eq c chan) [
-      | inl here ↦ ap (λ (o : Option Move). option_map_or (λ x. x.level) o (level_in_look (set look (chan - 1) m.level) c))
-          (find_none _ rest (each _ _ rest (λ y h. eq_above y.chan c (omega (arith, h, same, here))) rising.0))
-          ∙ level_in_look-set look chan c m.level least most here
-          ∙ sym (first_placed m rest c (level_in_look look c) (sym same ∙ sym here)) ∙ sym was ∙ placed c
-      | inr other ↦ ap (λ (n : ℕ). level_placed rest c n) (level_in_look-other look chan c m.level least other)
-          ∙ sym (first_other m rest c (level_in_look look c) (λ e. other (sym (same ∙ e)))) ∙ sym was ∙ placed c
+      | inl here ↦ rw (find_none _ rest (each _ _ rest (λ y h. eq_above y.chan c (omega (arith, h, same, here))) rising.0))
+          (level_in_look-set look chan c m.level least most here ∙ (rw (seam, eq_true m.chan c (sym same ∙ sym here)) at (placed c)))
+      | inr other ↦ rw (level_in_look-other look chan c m.level least other)
+          (rw (seam, eq_other m.chan c (λ e. other (sym (same ∙ e)))) at (placed c))
     ]
 
 -- sorted moves of channels above one and up to another are no more than there are channels between

@@ -3,7 +3,8 @@ use Rattle.lx_sheet.proofs.Imports.{◌≡◌, ℕ, ◌<◌, List, Some, None, r
 use Rattle.lx_sheet.proofs.Imports.{◌&&◌, option_map_or, Move, Cue, Show, Valid, ValidCue, decides, level_in, move_in, tracked, Place, level_by, rows_of}
 use Rattle.lx_sheet.proofs.Imports.{row_at_place, cue_level, last_value, IsStrictlySorted, map, eq_below, all_reverse, each, find_none, found_has}
 use Rattle.lx_sheet.proofs.Cells.{cell_past}
-use Rattle.lx_sheet.proofs.Rows.{count_up_to, level_of_block}
+use Rattle.lx_sheet.proofs.Numbers.{count_up_to}
+use Rattle.lx_sheet.proofs.Rows.{level_of_block}
 
 no_level : (channels c : ℕ) (cue : Cue) → channels < c → ValidCue channels cue → level_in cue c ≡ 0
 no_level channels c cue past valid =

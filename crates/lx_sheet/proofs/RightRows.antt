@@ -1,12 +1,15 @@
 -- Rows that hold the levels after the cues up to theirs, and the columns of a sheet that stands for a show.
-use Rattle.lx_sheet.proofs.Imports.{◌≡◌, ℕ, zero, suc, ◌+◌, ◌<◌, ◌≤◌, Bool, true, false, cond, List, [], ◌∷◌, length, get_or, take}
-use Rattle.lx_sheet.proofs.Imports.{map, refl, ◌∙◌, sym, ap, subst, arith, inl, inr, Option, Some, None, IfSome, filter, find, reverse, nat_le, nat_lt}
-use Rattle.lx_sheet.proofs.Imports.{◌&&◌, option_map_or, AllByRecursion, cases_lt, length-map, All-from_recursion, IsStrictlySorted, entries_below, Cue}
-use Rattle.lx_sheet.proofs.Imports.{Show, decides, level_in, tracked, le_false, le_true, lt_false, lt_true, each, filter_none, find_both_last, shorter}
-use Rattle.lx_sheet.proofs.Imports.{entries_up_to, Place, Marks, Sheet, level_by, level_of, rows_of, cue_level, last_value, count_under, IsRight, RowsFollow}
-use Rattle.lx_sheet.proofs.Imports.{RowsStandFor, StandsFrom, cue_numbers}
+use Rattle.lx_sheet.proofs.Imports.{◌≡◌, ℕ, zero, suc, ◌+◌, ◌<◌, ◌≤◌, List, [], ◌∷◌, length, get_or, take}
+use Rattle.lx_sheet.proofs.Imports.{map, ◌∙◌, sym, ap, subst, arith, inl, inr, Option, Some, None, IfSome, nat_le}
+use Rattle.lx_sheet.proofs.Imports.{option_map_or, AllByRecursion, cases_lt, length-map, All-from_recursion, IsStrictlySorted, Cue}
+use Rattle.lx_sheet.proofs.Imports.{Show, decides, tracked, le_false, le_true, lt_false, lt_true, each, filter_none, find_both_last}
+use Rattle.lx_sheet.proofs.Imports.{entries_up_to, Place, Sheet, level_by, level_of, rows_of, cue_level, last_value, count_under, IsRight, RowsFollow}
+use Rattle.lx_sheet.proofs.Imports.{StandsFrom, cue_numbers}
 use Rattle.lx_sheet.specs.After.{level_after}
-use Rattle.lx_sheet.proofs.Rows.{count_up_to, count_within, up_to_is_front, sheet_of, level_of_block, numbers-rows_of}
+use Rattle.lx_sheet.proofs.Imports.{cases_eq}
+use Rattle.std.specs.Prelude.{◌⊎◌}
+use Rattle.lx_sheet.proofs.Numbers.{count_up_to, count_within, count_under_within, same_length, sorted_alike, sorted_numbers}
+use Rattle.lx_sheet.proofs.Rows.{up_to_is_front, level_of_block, numbers-rows_of}
 use Rattle.lx_sheet.proofs.LevelsAfter.{level_after-nil}
 
 -- the tracked level follows from the cues up to the number
@@ -14,24 +17,11 @@ pub tracked_is : (show : Show) (n c : ℕ) → IsStrictlySorted (λ cue. cue.num
     → tracked show n c ≡ level_after (take (count_up_to n (cue_numbers show)) show.cues) c
 unfolding level_after
 tracked_is show n c sorted =
-    let p : Cue → Bool = λ cue. nat_le cue.number n in
-    let q : Cue → Bool = λ cue. decides cue c in
-    let found : find (λ cue. p cue && q cue) (reverse show.cues) ≡ find q (reverse (filter p show.cues)) =
-    sym (find_both_last p q show.cues) in
-    ap (λ (o : Option Cue). option_map_or (λ cue. level_in cue c) o 0)
-    (found ∙ ap (λ (xs : List Cue). find q (reverse xs)) (up_to_is_front (λ (cue : Cue). cue.number) n show.cues sorted))
-
-pub count_under-map : {A : Type 0} (key : A → ℕ) (n : ℕ) (xs : List A) → length (entries_below key n xs) ≡ count_under n (map key xs)
-count_under-map key n [] = refl
-count_under-map {A} key n (x ∷ xs) =
-    elim (nat_lt (key x) n) as (λ b. length (cond b (x ∷ entries_below key n xs) (entries_below key n xs))
-    ≡ length (cond b (key x ∷ entries_below (λ m. m) n (map key xs)) (entries_below (λ m. m) n (map key xs)))) [
-      | true ↦ ap suc (count_under-map key n xs)
-      | false ↦ count_under-map key n xs
-    ]
-
-pub count_under_within : (n : ℕ) (numbers : List ℕ) → count_under n numbers ≤ length numbers
-count_under_within n numbers = shorter (λ m. nat_lt m n) numbers
+    rw (
+      ← find_both_last (λ (cue : Cue). nat_le cue.number n) (λ (cue : Cue). decides cue c) show.cues,
+      up_to_is_front
+          (λ (cue : Cue). cue.number) n show.cues sorted,
+    )
 
 -- up to the number at a place there are that many and one
 count_at : (numbers : List ℕ) (k : ℕ) → IsStrictlySorted (λ n. n) numbers → k < length numbers
@@ -44,64 +34,40 @@ count_at (m ∷ ms) (suc k) sorted within =
     let above : m < get_or ms k 0 = All-from_recursion (λ y. m < y) ms sorted.0 k 0 (omega arith) in
     rw (le_true m (get_or ms k 0) (omega (arith, above))) (ap suc (count_at ms k sorted.1 (omega arith)))
 
--- from the place on that this many below it leave, the numbers aren't below it
-reached : (end : ℕ) (numbers : List ℕ) (k : ℕ) → IsStrictlySorted (λ n. n) numbers → count_under end numbers ≤ k → k < length numbers
-    → end ≤ get_or numbers k 0
-reached end [] k sorted least within = absurd (omega arith)
-reached end (m ∷ ms) zero sorted least within =
-    elim (cases_lt m end) [
-      | inl low ↦ absurd (let none : suc (count_under end ms) ≤ 0 = rw (lt_true m end low) at least in omega (arith, none))
-      | inr high ↦ high
-    ]
-reached end (m ∷ ms) (suc k) sorted least within =
-    elim (cases_lt m end) [
-      | inl low ↦ reached end ms k sorted.1 (let less : suc (count_under end ms) ≤ suc k =
-          rw (lt_true m end low) at least in omega (arith, less)) (omega arith)
-      | inr high ↦ omega (arith, high, All-from_recursion (λ y. m < y) ms sorted.0 k 0 (omega arith))
-    ]
+none_under : (end m : ℕ) (ms : List ℕ) → AllByRecursion (λ y. m < y) ms → end ≤ m → count_under end ms ≡ 0
+none_under end m ms above high = ap length (filter_none _ ms (each _ _ ms (λ y h. lt_false y end (omega arith)) above))
 
--- before that place they are
-pub none_left : (end m : ℕ) (ms : List ℕ) → IsStrictlySorted (λ n. n) (m ∷ ms) → end ≤ m → count_under end ms ≡ 0
-none_left end m ms sorted high = ap length (filter_none _ ms (each _ _ ms (λ y h. lt_false y end (omega arith)) sorted.0))
+-- A number at a place is below another exactly if more are than stand before it.
+under : (end : ℕ) (numbers : List ℕ) (k : ℕ) → IsStrictlySorted (λ n. n) numbers → k < length numbers
+    → (get_or numbers k 0 < end) × (k < count_under end numbers) ⊎ (end ≤ get_or numbers k 0) × (count_under end numbers ≤ k)
+under end [] k sorted within = absurd (omega arith)
+under end (m ∷ ms) zero sorted within = elim (cases_lt m end) [
+  | inl low ↦ rw (lt_true m end low) (inl (low, omega arith))
+  | inr high ↦ rw (lt_false m end high) (inr (high, omega (arith, none_under end m ms sorted.0 high)))
+]
+under end (m ∷ ms) (suc k) sorted within = elim (cases_lt m end) [
+  | inl low ↦ rw (lt_true m end low) (elim (under end ms k sorted.1 (omega arith)) [
+    | inl less ↦ inl (less.0, omega (arith, less.1))
+    | inr more ↦ inr (more.0, omega (arith, more.1))
+  ])
+  | inr high ↦ rw (lt_false m end high)
+      (inr (omega (arith, All-from_recursion (λ y. m < y) ms sorted.0 k 0 (omega arith)), omega (arith, none_under end m ms sorted.0 high)))
+]
+
+pub reached : (end : ℕ) (numbers : List ℕ) (k : ℕ) → IsStrictlySorted (λ n. n) numbers → count_under end numbers ≤ k → k < length numbers
+    → end ≤ get_or numbers k 0
+reached end numbers k sorted least within = elim (under end numbers k sorted within) [
+  | inl low ↦ absurd (omega (arith, low.1))
+  | inr high ↦
+      high.0
+]
 
 not_reached : (end : ℕ) (numbers : List ℕ) (k : ℕ) → IsStrictlySorted (λ n. n) numbers → k < count_under end numbers
     → get_or numbers k 0 < end
-not_reached end [] k sorted less = absurd (omega arith)
-not_reached end (m ∷ ms) zero sorted less =
-    elim (cases_lt m end) [
-      | inl low ↦ low
-      | inr high ↦ absurd (let few : 0 < count_under end ms =
-          rw (lt_false m end high) at less in omega (arith, few, none_left end m ms sorted high))
-    ]
-not_reached end (m ∷ ms) (suc k) sorted less =
-    elim (cases_lt m end) [
-      | inl low ↦ not_reached end ms k sorted.1
-          (let rest : suc k < suc (count_under end ms) = rw (lt_true m end low) at less in omega (arith, rest))
-      | inr high ↦ absurd (let few : suc k < count_under end ms =
-          rw (lt_false m end high) at less in omega (arith, few, none_left end m ms sorted high))
-    ]
-
-all_numbers : {A : Type 0} (key : A → ℕ) (n : ℕ) (xs : List A) → AllByRecursion (λ x. n < key x) xs
-    → AllByRecursion (λ m. n < m) (map key xs)
-all_numbers key n [] all = tt
-all_numbers key n (x ∷ xs) all = (all.0, all_numbers key n xs all.1)
-
-pub sorted_numbers : {A : Type 0} (key : A → ℕ) (xs : List A) → IsStrictlySorted key xs → IsStrictlySorted (λ n. n) (map key xs)
-sorted_numbers key [] sorted = tt
-sorted_numbers key (x ∷ xs) sorted = (all_numbers key (key x) xs sorted.0, sorted_numbers key xs sorted.1)
-
-all_keys : {A : Type 0} (key : A → ℕ) (n : ℕ) (xs : List A) → AllByRecursion (λ m. n < m) (map key xs) → AllByRecursion (λ x. n < key x) xs
-all_keys key n [] all = tt
-all_keys key n (x ∷ xs) all = (all.0, all_keys key n xs all.1)
-
-sorted_keys : {A : Type 0} (key : A → ℕ) (xs : List A) → IsStrictlySorted (λ n. n) (map key xs) → IsStrictlySorted key xs
-sorted_keys key [] sorted = tt
-sorted_keys key (x ∷ xs) sorted = (all_keys key (key x) xs sorted.0, sorted_keys key xs sorted.1)
-
--- lists with the same numbers are sorted alike
-pub sorted_alike : {A B : Type 0} (key : A → ℕ) (other : B → ℕ) (xs : List A) (ys : List B) → map key xs ≡ map other ys
-    → IsStrictlySorted key xs → IsStrictlySorted other ys
-sorted_alike key other xs ys same sorted = sorted_keys other ys (subst (IsStrictlySorted (λ n. n)) same (sorted_numbers key xs sorted))
+not_reached end numbers k sorted less = elim (under end numbers k sorted (omega (arith, count_under_within end numbers))) [
+  | inl low ↦ low.0
+  | inr high ↦ absurd (omega (arith, high.1))
+]
 
 -- an order of a show's cues
 pub record IsOrderOf (show : Show) (order : List Place) : Type 0 where
@@ -109,37 +75,54 @@ pub record IsOrderOf (show : Show) (order : List Place) : Type 0 where
   pub cues_sorted : IsStrictlySorted (λ cue. cue.number) show.cues
   pub numbers : map (λ p. p.cue) order ≡ cue_numbers show
 
-pub order_length : (show : Show) (order : List Place) → IsOrderOf show order → length order ≡ length show.cues
-order_length show order is =
-    sym (length-map order (λ (p : Place). p.cue)) ∙ ap length is.numbers ∙ length-map show.cues (λ (cue : Cue). cue.number)
+pub order_length : {show : Show} {order : List Place} → IsOrderOf show order → length order ≡ length show.cues
+order_length {show} {order} is = same_length (λ (p : Place). p.cue) (λ (cue : Cue). cue.number) order show.cues is.numbers
 
--- a row is right where the sheet gives the tracked level at the number of its cue
-pub right_at : (show : Show) (channels : ℕ) (order : List Place) (levels : List ℕ) (c k : ℕ) → IsOrderOf show order → k < length show.cues
-    → level_by (rows_of channels order levels) (get_or (cue_numbers show) k 0) c ≡ tracked show (get_or (cue_numbers show) k 0) c
-    → IsRight channels order show.cues levels k c
-right_at show channels order levels c k is within right =
-    let all : List ℕ = cue_numbers show in
-    let long : length all ≡ length show.cues = length-map show.cues (λ (cue : Cue). cue.number) in
-    let n : ℕ = get_or all k 0 in
-    let count : count_up_to n all ≡ suc k = count_at all k (sorted_numbers (λ (cue : Cue). cue.number) show.cues is.cues_sorted)
-    (omega (arith, long, within)) in
-    let next : suc k ≡ k + 1 = omega arith in
-    ap (λ j. last_value j (λ i. cue_level channels order levels i c)) (sym count)
-    ∙ ap (λ (ns : List ℕ). last_value (count_up_to n ns) (λ i. cue_level channels order levels i c)) (sym is.numbers)
-    ∙ sym (level_of_block channels order levels n c is.sorted)
-    ∙ right
-    ∙ tracked_is show n c is.cues_sorted
-    ∙ ap (λ j. level_after (take j show.cues) c) (count ∙ next)
+-- the last of some rows that are right has the levels after their cues
+pub last_right : (channels : ℕ) (order : List Place) (cues : List Cue) (levels : List ℕ) (c count : ℕ)
+    → ((k : ℕ) → k < count → IsRight channels order cues levels k c)
+    → last_value count (λ k. cue_level channels order levels k c) ≡ level_after (take count cues) c
+last_right channels order cues levels c zero right = sym (level_after-nil c)
+last_right channels order cues levels c (suc k) right =
+    let next : k + 1 ≡ suc k = omega arith in
+    right k (omega arith) ∙ ap (λ j. level_after (take j cues) c) next
 
--- where a sheet stands for a show below a number, the rows of the cues there are right
-pub right_below : (show : Show) (from channels : ℕ) (order : List Place) (levels : List ℕ) (c k : ℕ) → IsOrderOf show order
-    → ((n : ℕ) → n < from → level_by (rows_of channels order levels) n c ≡ tracked show n c)
-    → k < count_under from (cue_numbers show) → IsRight channels order show.cues levels k c
-right_below show from channels order levels c k is right less =
-    let long : length (cue_numbers show) ≡ length show.cues = length-map show.cues (λ (cue : Cue). cue.number) in
-    right_at show channels order levels c k is (omega (arith, long, less, count_under_within from (cue_numbers show)))
-    (right (get_or (cue_numbers show) k 0) (not_reached from (cue_numbers show) k
-    (sorted_numbers (λ (cue : Cue). cue.number) show.cues is.cues_sorted) less))
+module _ {show : Show} {order : List Place} (is : IsOrderOf show order) (channels : ℕ) (levels : List ℕ) (c : ℕ) where
+  level_is : (n : ℕ) → level_by (rows_of channels order levels) n c
+      ≡ last_value (count_up_to n (cue_numbers show)) (λ k. cue_level channels order levels k c)
+  level_is n = level_of_block channels order levels n c is.sorted
+      ∙ ap (λ (ns : List ℕ). last_value (count_up_to n ns) (λ k. cue_level channels order levels k c)) is.numbers
+
+  -- a row is right where the sheet gives the tracked level at the number of its cue
+  pub right_at : (k : ℕ) → k < length show.cues
+      → level_by (rows_of channels order levels) (get_or (cue_numbers show) k 0) c ≡ tracked show (get_or (cue_numbers show) k 0) c
+      → IsRight channels order show.cues levels k c
+  right_at k within right =
+      let all : List ℕ = cue_numbers show in
+      let n : ℕ = get_or all k 0 in
+      let count : count_up_to n all ≡ suc k = count_at all k (sorted_numbers (λ (cue : Cue). cue.number) show.cues is.cues_sorted)
+      (omega (arith, length-map show.cues (λ (cue : Cue). cue.number), within)) in
+      let next : suc k ≡ k + 1 = omega arith in
+      ap (λ j. last_value j (λ i. cue_level channels order levels i c)) (sym count) ∙ sym (level_is n) ∙ right
+      ∙ tracked_is show n c is.cues_sorted ∙ ap (λ j. level_after (take j show.cues) c) (count ∙ next)
+
+  -- where a sheet stands for a show below a number, the rows of the cues there are right
+  pub right_below : (from k : ℕ) → ((n : ℕ) → n < from → level_by (rows_of channels order levels) n c ≡ tracked show n c)
+      → k < count_under from (cue_numbers show) → IsRight channels order show.cues levels k c
+  right_below from k right less =
+      right_at k (omega (arith, length-map show.cues (λ (cue : Cue). cue.number), less, count_under_within from (cue_numbers show)))
+      (right (get_or (cue_numbers show) k 0) (not_reached from (cue_numbers show) k
+      (sorted_numbers (λ (cue : Cue). cue.number) show.cues is.cues_sorted) less))
+
+  -- where each row is right, the column stands for the show
+  pub column_right : ((k : ℕ) → k < length show.cues → IsRight channels order show.cues levels k c)
+      → (n : ℕ) → level_by (rows_of channels order levels) n c ≡ tracked show n c
+  column_right right n =
+      let within : count_up_to n (cue_numbers show) ≤ length show.cues =
+      omega (arith, count_within n (cue_numbers show), length-map show.cues (λ (cue : Cue). cue.number)) in
+      level_is n ∙ last_right channels order show.cues levels c (count_up_to n (cue_numbers show))
+      (λ k less. right k (omega (arith, within, less)))
+      ∙ sym (tracked_is show n c is.cues_sorted)
 
 -- how many cues are below the number, or all
 abbrev pub until : Option ℕ → List Cue → ℕ
@@ -159,54 +142,27 @@ stands_from show sheet (Some to) c place sorted is above k least within =
     above (get_or (cue_numbers show) k 0) (reached to (cue_numbers show) k (sorted_numbers (λ (cue : Cue). cue.number) show.cues sorted)
     (omega (arith, is, least)) (omega (arith, within, length-map show.cues (λ (cue : Cue). cue.number))))
 
--- the last of some rows that are right has the levels after their cues
-pub last_right : (channels : ℕ) (order : List Place) (cues : List Cue) (levels : List ℕ) (c count : ℕ)
-    → ((k : ℕ) → k < count → IsRight channels order cues levels k c)
-    → last_value count (λ k. cue_level channels order levels k c) ≡ level_after (take count cues) c
-last_right channels order cues levels c zero right = sym (level_after-nil c)
-last_right channels order cues levels c (suc k) right =
-    let next : k + 1 ≡ suc k = omega arith in
-    right k (omega arith) ∙ ap (λ j. level_after (take j cues) c) next
-
--- where each row is right, the column stands for the show
-pub column_right : (show : Show) (channels : ℕ) (order : List Place) (levels : List ℕ) (c : ℕ) → IsOrderOf show order
-    → ((k : ℕ) → k < length show.cues → IsRight channels order show.cues levels k c)
-    → (n : ℕ) → level_by (rows_of channels order levels) n c ≡ tracked show n c
-column_right show channels order levels c is right n =
-    let numbers : List ℕ = cue_numbers show in
-    let within : count_up_to n numbers ≤ length show.cues =
-    omega (arith, count_within n numbers, length-map show.cues (λ (cue : Cue). cue.number)) in
-    level_of_block channels order levels n c is.sorted
-    ∙ ap (λ (ns : List ℕ). last_value (count_up_to n ns) (λ k. cue_level channels order levels k c)) is.numbers
-    ∙ last_right channels order show.cues levels c (count_up_to n numbers) (λ k less. right k (omega (arith, within, less)))
-    ∙ sym (tracked_is show n c is.cues_sorted)
-
 -- from a row that is right on, rows that follow are
 pub right_on : (channels : ℕ) (order : List Place) (cues : List Cue) (levels : List ℕ) (from at c : ℕ)
-    → RowsFollow channels order cues levels from → from ≤ at
-    → IsRight channels order cues levels at c → (j : ℕ) → at + j < length cues → IsRight channels order cues levels (at + j) c
-right_on channels order cues levels from at c follows least right zero within =
-    let none : at ≡ at + 0 = omega arith in
-    subst (λ k. IsRight channels order cues levels k c) none right
-right_on channels order cues levels from at c follows least right (suc j) within =
-    let next : at + j + 1 ≡ at + suc j = omega arith in
-    subst (λ k. IsRight channels order cues levels k c) next
-    (follows (at + j) c (omega arith) (omega arith) (right_on channels order cues levels from at c follows least right j (omega arith)))
+    → RowsFollow channels order cues levels from → from ≤ at → IsRight channels order cues levels at c
+    → (k : ℕ) → at ≤ k → k < length cues → IsRight channels order cues levels k c
+right_on channels order cues levels from at c follows least right zero past within =
+    let here : at ≡ 0 = omega arith in subst (λ k. IsRight channels order cues levels k c) here right
+right_on channels order cues levels from at c follows least right (suc k) past within = elim (cases_eq at (suc k)) [
+  | inl here ↦ subst (λ k. IsRight channels order cues levels k c) here right
+  | inr apart ↦
+      let next : k + 1 ≡ suc k = omega arith in
+      subst (λ j. IsRight channels order cues levels j c) next
+      (follows k c (omega arith) (omega arith) (right_on channels order cues levels from at c follows least right k (omega arith)
+      (omega arith)))
+]
 
--- a sheet that stands for a show has its cues in order, and its rows right
-pub order_of : (show : Show) (channels : ℕ) (order : List Place) (levels : List ℕ) (marks : Marks) → IsStrictlySorted (λ p. p.cue) order
-    → RowsStandFor show (sheet_of channels order levels marks) → IsOrderOf show order
-order_of show channels order levels marks sorted stands =
-    let numbers : map (λ (p : Place). p.cue) order ≡ cue_numbers show = sym (numbers-rows_of channels order levels) ∙ stands.numbers in
-    record {
+-- a sheet that stands for a show has its cues in order
+pub order_of : {show : Show} (channels : ℕ) {order : List Place} (levels : List ℕ) → IsStrictlySorted (λ p. p.cue) order
+    → map (λ r. r.number) (rows_of channels order levels) ≡ cue_numbers show → IsOrderOf show order
+order_of {show} channels {order} levels sorted same =
+    let numbers : map (λ (p : Place). p.cue) order ≡ cue_numbers show = sym (numbers-rows_of channels order levels) ∙ same in record {
       sorted = sorted;
       cues_sorted = sorted_alike (λ (p : Place). p.cue) (λ (cue : Cue). cue.number) order show.cues numbers sorted;
       numbers = numbers;
     }
-
-pub rows_right : (show : Show) (channels : ℕ) (order : List Place) (levels : List ℕ) (marks : Marks) → IsStrictlySorted (λ p. p.cue) order
-    → RowsStandFor show (sheet_of channels order levels marks)
-    → (k c : ℕ) → k < length show.cues → IsRight channels order show.cues levels k c
-rows_right show channels order levels marks sorted stands k c within =
-    right_at show channels order levels c k (order_of show channels order levels marks sorted stands) within
-    (stands.columns c (get_or (cue_numbers show) k 0))

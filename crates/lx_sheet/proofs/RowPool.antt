@@ -1,11 +1,12 @@
 -- The cues' own rows and the free ones: apart, and together all rows of the block, whatever comes or goes.
 use Rattle.lx_sheet.proofs.Imports.{◌≡◌, ◌≢◌, ℕ, zero, suc, ◌+◌, ◌<◌, ◌≤◌, false, List, [], ◌∷◌, ◌++◌, length, get_or}
-use Rattle.lx_sheet.proofs.Imports.{take, drop, refl, ◌∙◌, sym, ap, subst, inl, inr, arith, insert, remove, reverse, ◌==◌, range_with_len}
+use Rattle.lx_sheet.proofs.Imports.{take, drop, ◌∙◌, sym, ap, subst, inl, inr, arith, insert, remove, ◌==◌, range_with_len}
 use Rattle.lx_sheet.proofs.Imports.{cases_order, false≢true, append_assoc, map-append, take-map, drop-map, length-map, length-append, get_or-map}
 use Rattle.lx_sheet.proofs.Imports.{get_or_append_left, length-range_with_len, get_or-range_with_len, IsPermutation-sym, IsPermutation-trans}
-use Rattle.lx_sheet.proofs.Imports.{IsPermutation-to_front, IsPermutation-append_left, IsPermutation-append_right, IsPermutation-reverse, IsPermutation-insert}
-use Rattle.lx_sheet.proofs.Imports.{IsPermutation-remove, All-permutation, length_permutation, CUES, Cue, eq_true, eq_below, Place, AreApart, IsPool, own_rows}
-use Rattle.lx_sheet.proofs.Imports.{placed_from, row_at_place}
+use Rattle.lx_sheet.proofs.Imports.{IsPermutation-to_front, IsPermutation-append_left, IsPermutation-insert}
+use Rattle.lx_sheet.proofs.Imports.{IsPermutation-remove, All-permutation, length_permutation, CUES, eq_true}
+use Rattle.lx_sheet.proofs.Imports.{eq_below, Place, AreApart, IsBlock, IsPool, own_rows}
+use Rattle.lx_sheet.proofs.Imports.{row_at_place}
 use Rattle.std.specs.List.Sorted.{IsPermutation}
 use Rattle.std.proofs.lemmas.Bool.Decides.{nat_tests}
 use Rattle.std.proofs.lemmas.Map.Keys.{apart_from_distinct, IsDistinct-from_apart, IsDistinct-IsPermutation}
@@ -23,15 +24,16 @@ differ rows i k apart less within same =
     false≢true (sym (apart_from_distinct (λ a b. a == b) rows i k 0 apart.distinct less within)
     ∙ eq_true (get_or rows i 0) (get_or rows k 0) same)
 
-pub rows_differ : (order : List Place) (i k : ℕ) → AreApart (own_rows order) → i < length order → k < length order → i ≢ k
+pub rows_differ : {n : ℕ} {levels : List ℕ} {order : List Place} (i k : ℕ) → IsBlock n levels order → i < length order → k < length order
+    → i ≢ k
     → row_at_place order i ≢ row_at_place order k
-rows_differ order i k apart low high other same =
+rows_differ {order = order} i k block low high other same =
     let long : length (own_rows order) ≡ length order = length-map order (λ (p : Place). p.row) in
     elim (cases_order i k) [
       | inl here ↦ other here
       | inr two ↦ elim two [
-        | inl less ↦ differ (own_rows order) i k apart less (omega (arith, long)) same
-        | inr more ↦ differ (own_rows order) k i apart more (omega (arith, long)) (sym same)
+        | inl less ↦ differ (own_rows order) i k block.apart less (omega (arith, long)) same
+        | inr more ↦ differ (own_rows order) k i block.apart more (omega (arith, long)) (sym same)
       ]
     ]
 
@@ -48,8 +50,8 @@ front_apart xs ys apart =
       within = λ k d within. subst (λ r. r < CUES) (get_or_append_left xs ys d k within) (apart.within k d (omega (arith, long)));
     }
 
-pub own_apart : (order : List Place) (free : List ℕ) → IsPool order free → AreApart (own_rows order)
-own_apart order free pool = front_apart (own_rows order) free pool.apart
+pub own_apart : {order : List Place} {free : List ℕ} → IsPool order free → AreApart (own_rows order)
+own_apart {order} {free} pool = front_apart (own_rows order) free pool.apart
 
 -- in another order rows stay apart
 flips : (a b : ℕ) → (a == b) ≡ (b == a)
@@ -82,40 +84,28 @@ own-remove order at =
 
 -- the last free row becomes a cue's own
 rows_taken : (rows free : List ℕ) (at row : ℕ) → IsPermutation (rows ++ (free ++ row ∷ [])) (insert rows at row ++ free)
-rows_taken rows free at row =
-    subst (λ (xs : List ℕ). IsPermutation xs (insert rows at row ++ free)) (append_assoc rows free (row ∷ []))
-    (IsPermutation-trans ((rows ++ free) ++ row ∷ []) (row ∷ (rows ++ free)) (insert rows at row ++ free)
-    (IsPermutation-to_front (rows ++ free) row)
+rows_taken rows free at row = rw (← append_assoc rows free (row ∷ []))
+    (IsPermutation-trans _ (row ∷ (rows ++ free)) _ (IsPermutation-to_front (rows ++ free) row)
     (IsPermutation-append_left free (row ∷ rows) (insert rows at row) (IsPermutation-insert rows at row)))
 
 pub pool_taken : (order : List Place) (free : List ℕ) (at : ℕ) (p : Place) → IsPool order (free ++ p.row ∷ [])
     → IsPool (insert order at p) free
-pool_taken order free at p pool =
-    pool_moved order (insert order at p) (free ++ p.row ∷ []) free
-    (subst (λ (xs : List ℕ). IsPermutation (own_rows order ++ (free ++ p.row ∷ [])) (xs ++ free)) (sym (own-insert order at p))
-    (rows_taken (own_rows order) free at p.row)) pool
+pool_taken order free at p = pool_moved order (insert order at p) (free ++ p.row ∷ []) free
+    (rw (own-insert order at p) (rows_taken (own_rows order) free at p.row))
 
 -- a cue's own row becomes the last free one
 rows_freed : (rows free : List ℕ) (at row : ℕ) → at < length rows → row ≡ get_or rows at row
     → IsPermutation (rows ++ free) (remove rows at ++ (free ++ row ∷ []))
-rows_freed rows free at row within is =
-    subst (λ (xs : List ℕ). IsPermutation (rows ++ free) xs) (append_assoc (remove rows at) free (row ∷ []))
-    (IsPermutation-trans (rows ++ free) (row ∷ (remove rows at ++ free)) ((remove rows at ++ free) ++ row ∷ [])
+rows_freed rows free at row within is = rw (← append_assoc (remove rows at) free (row ∷ []))
+    (IsPermutation-trans _ (row ∷ (remove rows at ++ free)) _
     (IsPermutation-append_left free rows (row ∷ remove rows at) (IsPermutation-remove rows at row within is))
-    (IsPermutation-sym ((remove rows at ++ free) ++ row ∷ []) (row ∷ (remove rows at ++ free))
-    (IsPermutation-to_front (remove rows at ++ free) row)))
+    (IsPermutation-sym _ _ (IsPermutation-to_front (remove rows at ++ free) row)))
 
 pub pool_freed : (order : List Place) (free : List ℕ) (at : ℕ) (p : Place) → at < length order → p ≡ get_or order at p → IsPool order free
     → IsPool (remove order at) (free ++ p.row ∷ [])
-pool_freed order free at p within is pool =
-    let here : p.row ≡ get_or (own_rows order) at p.row =
-    sym (get_or-map (λ (x : Place). x.row) order at p p.row within ∙ ap (λ (x : Place). x.row) (sym is)) in
-    pool_moved order (remove order at) free (free ++ p.row ∷ [])
-    (subst (λ (xs : List ℕ). IsPermutation (own_rows order ++ free) (xs ++ (free ++ p.row ∷ []))) (sym (own-remove order at))
-    (rows_freed (own_rows order) free at p.row (omega (arith, length-map order (λ (x : Place). x.row))) here)) pool
-
-pub few_rows : (order : List Place) (free : List ℕ) → IsPool order free → length order + length free ≡ CUES
-few_rows order free pool = omega (arith, pool.all, length-append (own_rows order) free, length-map order (λ (p : Place). p.row))
+pool_freed order free at p within is = pool_moved order (remove order at) free (free ++ p.row ∷ [])
+    (rw (own-remove order at) (rows_freed (own_rows order) free at p.row (omega (arith, length-map order (λ (x : Place). x.row)))
+    (sym (get_or-map (λ (x : Place). x.row) order at p p.row within ∙ ap (λ (x : Place). x.row) (sym is)))))
 
 -- all rows in order
 pub range_append : (a m n : ℕ) → range_with_len a m ++ range_with_len (a + m) n ≡ range_with_len a (m + n)
@@ -129,47 +119,11 @@ range_append a (suc m) n =
     ap (λ k. a ∷ (range_with_len (a + 1) m ++ range_with_len k n)) e ∙ ap (λ xs. a ∷ xs) (range_append (a + 1) m n)
     ∙ ap (range_with_len a) (sym f)
 
-range_apart : (n : ℕ) → n ≤ CUES → AreApart (range_with_len 0 n)
-range_apart n few = record {
-  distinct = IsDistinct-from_apart (λ a b. a == b) (range_with_len 0 n) (λ i j d less within.
-      let long : length (range_with_len 0 n) ≡ n = length-range_with_len 0 n in
-      let left : get_or (range_with_len 0 n) i d ≡ 0 + i = get_or-range_with_len 0 n i d (omega arith) in
-      let right : get_or (range_with_len 0 n) j d ≡ 0 + j = get_or-range_with_len 0 n j d (omega arith) in
-      eq_below (get_or (range_with_len 0 n) i d) (get_or (range_with_len 0 n) j d) (omega arith));
-  within = λ k d within.
-      let long : length (range_with_len 0 n) ≡ n = length-range_with_len 0 n in
-      let here : get_or (range_with_len 0 n) k d ≡ 0 + k = get_or-range_with_len 0 n k d (omega arith) in
-      omega arith;
-}
-
-pub own-placed_from : (a : ℕ) (cues : List Cue) → own_rows (placed_from a cues) ≡ range_with_len a (length cues)
-own-placed_from a [] = refl
-own-placed_from a (cue ∷ cues) =
-    let e : suc a ≡ a + 1 = omega arith in
-    ap (λ xs. a ∷ xs) (own-placed_from (suc a) cues ∙ ap (λ k. range_with_len k (length cues)) e)
-
-pub length-placed_from : (a : ℕ) (cues : List Cue) → length (placed_from a cues) ≡ length cues
-length-placed_from a [] = refl
-length-placed_from a (cue ∷ cues) = ap suc (length-placed_from (suc a) cues)
-
-whole_pool : (cues : List Cue) (n : ℕ) → length cues + n ≡ CUES → IsPool (placed_from 0 cues) (range_with_len (length cues) n)
-whole_pool cues n all =
-    let start : length cues ≡ 0 + length cues = omega arith in
-    let rows : own_rows (placed_from 0 cues) ++ range_with_len (length cues) n ≡ range_with_len 0 (length cues + n) =
-    ap (λ (xs : List ℕ). xs ++ range_with_len (length cues) n) (own-placed_from 0 cues)
-    ∙ ap (λ k. range_with_len 0 (length cues) ++ range_with_len k n) start
-    ∙ range_append 0 (length cues) n in
-    record {
-      apart = subst AreApart (sym rows) (range_apart (length cues + n) (omega arith));
-      all = ap length rows ∙ length-range_with_len 0 (length cues + n) ∙ all;
+pub range_apart : (n : ℕ) → n ≤ CUES → AreApart (range_with_len 0 n)
+range_apart n few =
+    let long : length (range_with_len 0 n) ≡ n = length-range_with_len 0 n in record {
+      distinct = IsDistinct-from_apart (λ a b. a == b) (range_with_len 0 n) (λ i j d less within.
+          rw (get_or-range_with_len 0 n i d (omega arith), get_or-range_with_len 0 n j d (omega arith))
+          (eq_below (0 + i) (0 + j) (omega arith)));
+      within = λ k d within. omega (arith, get_or-range_with_len 0 n k d (omega arith));
     }
-
--- the cues listed, and the rows above theirs freed
-pub listed_pool : (order : List Place) (free : List ℕ) (cues : List Cue) (n : ℕ) → order ≡ placed_from 0 cues
-    → free ≡ reverse (range_with_len (length cues) n) → length cues + n ≡ CUES → IsPool order free
-listed_pool order free cues n listed freed all =
-    subst (λ (xs : List Place). IsPool xs free) (sym listed)
-    (subst (λ (xs : List ℕ). IsPool (placed_from 0 cues) xs) (sym freed)
-    (pool_moved (placed_from 0 cues) (placed_from 0 cues) (range_with_len (length cues) n) (reverse (range_with_len (length cues) n))
-    (IsPermutation-append_right (own_rows (placed_from 0 cues)) (range_with_len (length cues) n) (reverse (range_with_len (length cues) n))
-    (IsPermutation-reverse (range_with_len (length cues) n))) (whole_pool cues n all)))

@@ -1,23 +1,11 @@
 -- The rows of cues, by their places in the order, and the level that they give at a number.
-use Rattle.lx_sheet.proofs.Imports.{◌≡◌, ℕ, zero, suc, ◌-◌, ◌*◌, ◌<◌, ◌≤◌, true, false, cond, List, [], ◌∷◌, length, get_or}
-use Rattle.lx_sheet.proofs.Imports.{take, drop, map, Some, refl, ◌∙◌, sym, ap, arith, inl, inr, Option, find, reverse, nat_le, slice_get, option_map_or}
-use Rattle.lx_sheet.proofs.Imports.{AllByRecursion, cases_lt, length-map, IsStrictlySorted, entries_up_to, Place, Marks, Row, Sheet, level_in_row, marks_of}
-use Rattle.lx_sheet.proofs.Imports.{rows_of, cue_level, last_value, width, le_false, le_true, each, filter_none, find_last, shorter}
+use Rattle.lx_sheet.proofs.Imports.{◌≡◌, ℕ, zero, suc, ◌-◌, ◌<◌, ◌≤◌, List, [], ◌∷◌, length}
+use Rattle.lx_sheet.proofs.Imports.{take, map, refl, ◌∙◌, sym, ap, arith, inl, inr, Option, find, reverse, nat_le, slice_get, option_map_or}
+use Rattle.lx_sheet.proofs.Imports.{cases_lt, length-map, IsStrictlySorted, entries_up_to, Place, Marks, Row, Sheet, level_in_row, marks_of}
+use Rattle.lx_sheet.proofs.Imports.{rows_of, cue_level, last_value, le_false, le_true, each, filter_none, find_last}
+use Rattle.lx_sheet.proofs.Numbers.{count_up_to, count_up_to-map, count_within, sorted_alike}
 use Rattle.lx_sheet.specs.Rows.{level_by}
 use Rattle.lx_sheet.specs.Block.{cell}
-
--- how many of the numbers are up to this one
-abbrev pub count_up_to : ℕ → List ℕ → ℕ
-count_up_to n numbers = length (entries_up_to (λ m. m) n numbers)
-
-pub count_up_to-map : {A : Type 0} (key : A → ℕ) (n : ℕ) (xs : List A) → length (entries_up_to key n xs) ≡ count_up_to n (map key xs)
-count_up_to-map key n [] = refl
-count_up_to-map {A} key n (x ∷ xs) =
-    elim (nat_le (key x) n) as (λ b. length (cond b (x ∷ entries_up_to key n xs) (entries_up_to key n xs))
-    ≡ length (cond b (key x ∷ entries_up_to (λ m. m) n (map key xs)) (entries_up_to (λ m. m) n (map key xs)))) [
-      | true ↦ ap suc (count_up_to-map key n xs)
-      | false ↦ count_up_to-map key n xs
-    ]
 
 -- those up to a number stand in front
 pub up_to_is_front : {A : Type 0} (key : A → ℕ) (n : ℕ) (xs : List A) → IsStrictlySorted key xs
@@ -49,42 +37,19 @@ last_of_front {A} f xs (suc k) =
 pub last_up_to : {A : Type 0} (key f : A → ℕ) (n : ℕ) (xs : List A) → IsStrictlySorted key xs
     → option_map_or f (find (λ x. nat_le (key x) n) (reverse xs)) 0
     ≡ last_value (count_up_to n (map key xs)) (λ k. option_map_or f (slice_get xs k) 0)
-last_up_to {A} key f n xs sorted =
-    let found : find (λ x. nat_le (key x) n) (reverse xs) ≡ slice_get (entries_up_to key n xs) (length (entries_up_to key n xs) - 1) =
-    sym (find_last (λ x. nat_le (key x) n) xs) in
-    let front : slice_get (entries_up_to key n xs) (length (entries_up_to key n xs) - 1)
-    ≡ slice_get (take (count_up_to n (map key xs)) xs) (count_up_to n (map key xs) - 1) =
-    ap (λ k. slice_get (entries_up_to key n xs) (k - 1)) (count_up_to-map key n xs)
-    ∙ ap (λ (ys : List A). slice_get ys (count_up_to n (map key xs) - 1)) (up_to_is_front key n xs sorted) in
-    ap (λ (o : Option A). option_map_or f o 0) (found ∙ front) ∙ last_of_front f xs (count_up_to n (map key xs))
-
-pub count_within : (n : ℕ) (numbers : List ℕ) → count_up_to n numbers ≤ length numbers
-count_within n numbers = shorter (λ m. nat_le m n) numbers
+last_up_to key f n xs sorted =
+    rw (← find_last (λ x. nat_le (key x) n) xs, count_up_to-map key n xs, up_to_is_front key n xs sorted)
+    (last_of_front f xs (count_up_to n (map key xs)))
 
 pub numbers-rows_of : (channels : ℕ) (order : List Place) (levels : List ℕ)
     → map (λ r. r.number) (rows_of channels order levels) ≡ map (λ p. p.cue) order
 numbers-rows_of channels [] levels = refl
 numbers-rows_of channels (p ∷ order) levels = ap (λ ns. p.cue ∷ ns) (numbers-rows_of channels order levels)
 
-all_rows : (P : ℕ → Type 0) (channels : ℕ) (order : List Place) (levels : List ℕ) → AllByRecursion (λ p. P p.cue) order
-    → AllByRecursion (λ r. P r.number) (rows_of channels order levels)
-all_rows P channels [] levels all = tt
-all_rows P channels (p ∷ order) levels all = (all.0, all_rows P channels order levels all.1)
-
-pub IsStrictlySorted-rows_of : (channels : ℕ) (order : List Place) (levels : List ℕ) → IsStrictlySorted (λ p. p.cue) order
+IsStrictlySorted-rows_of : (channels : ℕ) (order : List Place) (levels : List ℕ) → IsStrictlySorted (λ p. p.cue) order
     → IsStrictlySorted (λ r. r.number) (rows_of channels order levels)
-IsStrictlySorted-rows_of channels [] levels sorted = tt
-IsStrictlySorted-rows_of channels (p ∷ order) levels sorted =
-    (all_rows (λ n. p.cue < n) channels order levels sorted.0, IsStrictlySorted-rows_of channels order levels sorted.1)
-
--- the row of the cue at a place
-pub row_of_place : (channels : ℕ) (order : List Place) (levels : List ℕ) (k : ℕ) (p : Place) → k < length order → p ≡ get_or order k p
-    → slice_get (rows_of channels order levels) k
-    ≡ Some (record { number = p.cue; levels = take channels (drop (p.row * width channels) levels) })
-row_of_place channels [] levels k p within is = absurd (omega arith)
-row_of_place channels (q ∷ order) levels zero p within is =
-    ap (λ (x : Place). Some (record { number = x.cue; levels = take channels (drop (x.row * width channels) levels) })) (sym is)
-row_of_place channels (q ∷ order) levels (suc k) p within is = row_of_place channels order levels k p (omega arith) is
+IsStrictlySorted-rows_of channels order levels = sorted_alike (λ (p : Place). p.cue) (λ (r : Row). r.number) order
+    (rows_of channels order levels) (sym (numbers-rows_of channels order levels))
 
 -- a level in the row of the cue at a place
 level_at_place : (channels : ℕ) (order : List Place) (levels : List ℕ) (k c : ℕ) → k < length order
@@ -112,8 +77,7 @@ unfolding level_by
 level_of_block channels order levels n c sorted =
     let numbers : List ℕ = map (λ (p : Place). p.cue) order in
     let within : count_up_to n numbers ≤ length order = omega (arith, count_within n numbers, length-map order (λ (p : Place). p.cue)) in
-    let at : ℕ → ℕ = λ k. option_map_or (λ (r : Row). level_in_row r c) (slice_get (rows_of channels order levels) k) 0 in
     last_up_to (λ (r : Row). r.number) (λ (r : Row). level_in_row r c) n (rows_of channels order levels)
     (IsStrictlySorted-rows_of channels order levels sorted)
-    ∙ ap (λ (ns : List ℕ). last_value (count_up_to n ns) at) (numbers-rows_of channels order levels)
-    ∙ last_value_same (count_up_to n numbers) _ _ (λ k less. level_at_place channels order levels k c (omega (arith, within, less)))
+    ∙ rw (numbers-rows_of channels order levels)
+    (last_value_same (count_up_to n numbers) _ _ (λ k less. level_at_place channels order levels k c (omega (arith, within, less))))

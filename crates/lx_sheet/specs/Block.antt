@@ -1,10 +1,9 @@
 -- How the rows are kept: a block of levels by row, marks beside it, and the cues in order, each with the row of the block that is its own.
-use Rattle.std.specs.Prelude.{◌≡◌, ℕ, zero, suc, ◌+◌, ◌*◌, ◌≤◌, ◌<◌, ◌==◌, List, [], ◌∷◌, ◌++◌, length, map, take, drop, slice_get, slice_index}
-use Rattle.std.specs.Prelude.{IfSome}
-use Rattle.std.specs.List.{All, IsDistinct, range_with_len}
+use Rattle.std.specs.Prelude.{◌≡◌, ℕ, zero, suc, ◌+◌, ◌*◌, ◌≤◌, ◌<◌, ◌==◌, List, [], ◌∷◌, ◌++◌, length, map, take, drop, get_or, slice_index}
+use Rattle.std.specs.List.{All, AllByRecursion, IsDistinct, range_with_len}
 use Rattle.lx_base.specs.declared.TheConstants.{CUES, CHANNELS}
 use Rattle.lx_spec.specs.SortedList.{IsStrictlySorted, entries_below}
-use Rattle.lx_spec.specs.Show.{Cue}
+use Rattle.lx_spec.specs.Show.{Cue, ValidCue}
 use Rattle.lx_sheet.specs.declared.block.TheConstants.{ROW_GAP}
 use Rattle.lx_sheet.specs.declared.sheet.Place.{Place}
 use Rattle.lx_sheet.specs.declared.marks.Marks.{Marks}
@@ -41,20 +40,38 @@ pub record IsPool (order : List Place) (free : List ℕ) : Type 0 where
 abbrev pub Covers : ℕ → List ℕ → List Place → Type 0
 Covers channels levels order = All (λ r. (r + 1) * width channels ≤ length levels) (own_rows order)
 
--- The cues are sorted by number, and their rows a pool that the block covers. There is room for the greatest number of rows, and for the
--- levels of one cue, and there are marks of each row of the block.
-pub record HoldsRows (channels : ℕ) (order : List Place) (room : ℕ) (free : List ℕ) (spare : ℕ) (levels : List ℕ) (block : ℕ)
-    (look : List ℕ) (marks : Marks) : Type 0 where
+-- The block covers the rows of an order, which are apart.
+pub record IsBlock (channels : ℕ) (levels : List ℕ) (order : List Place) : Type 0 where
   pub few : channels ≤ CHANNELS
+  pub covered : Covers channels levels order
+  pub apart : AreApart (own_rows order)
+
+-- the same, with a place for each of these valid cues
+pub record HasPlaces (channels : ℕ) (levels : List ℕ) (order : List Place) (cues : List Cue) : Type 0 where
+  pub block : IsBlock channels levels order
+  pub places : length order ≡ length cues
+  pub valid : AllByRecursion (ValidCue channels) cues
+
+-- The places are sorted by number, and their rows and the free ones a pool. There is room for the greatest number of both.
+pub record IsOrder (order : List Place) (room : ℕ) (free : List ℕ) (spare : ℕ) : Type 0 where
   pub sorted : IsStrictlySorted (λ p. p.cue) order
   pub pool : IsPool order free
   pub row_room : CUES ≤ room
   pub free_room : CUES ≤ spare
-  pub level_room : CUES * width channels ≤ block
-  pub covered : Covers channels levels order
-  pub look_room : length look ≡ channels
+
+-- there are marks of each row of the block
+pub record HoldsMarks (channels : ℕ) (levels : List ℕ) (marks : Marks) : Type 0 where
   pub table : IsMarkTable channels marks
   pub reached : (r : ℕ) → (r + 1) * width channels ≤ length levels → IsReached marks r
+
+-- The cues are in order, and the block covers their rows. There is room for the greatest number of rows, and for the levels of one cue.
+pub record HoldsRows (channels : ℕ) (order : List Place) (room : ℕ) (free : List ℕ) (spare : ℕ) (levels : List ℕ) (capacity : ℕ)
+    (look : List ℕ) (marks : Marks) : Type 0 where
+  pub kept : IsOrder order room free spare
+  pub block : IsBlock channels levels order
+  pub level_room : CUES * width channels ≤ capacity
+  pub look_room : length look ≡ channels
+  pub marked : HoldsMarks channels levels marks
 
 -- a channel's level among those of the channels from 1 on
 abbrev pub level_in_look : List ℕ → ℕ → ℕ
@@ -74,7 +91,8 @@ cue_level channels order levels k c = cell channels levels (row_at_place order k
 
 -- the channels that the cues decide are marked in their rows
 abbrev pub AreMarked : ℕ → List Place → List Cue → Marks → Type 0
-AreMarked channels order cues marks = (k : ℕ) → IfSome (slice_get cues k) (IsMarkedFor channels marks (row_at_place order k))
+AreMarked channels order cues marks =
+    (k : ℕ) (cue : Cue) → k < length cues → cue ≡ get_or cues k cue → IsMarkedFor channels marks (row_at_place order k) cue
 
 -- the last of this many values, or 0 where there is none
 abbrev pub last_value : ℕ → (ℕ → ℕ) → ℕ

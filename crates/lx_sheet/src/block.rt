@@ -1,11 +1,9 @@
 //! The block of rows: rows written and read, and columns mended.
 
 ghost use Rattle.std.specs.Prelude.{◌≡◌, ◌≢◌, ℕ, true, false, ◌+◌, ◌*◌, ◌<◌, ◌≤◌, IfSome, length, max, slice_get, take, vec_capacity};
-ghost use Rattle.std.specs.List.{AllByRecursion};
 ghost use Rattle.lx_base.specs.declared.TheConstants.{CUES, CHANNELS};
-ghost use Rattle.lx_spec.specs.Show.{ValidCue};
 ghost use Rattle.lx_spec.specs.TrackedLevel.{decides};
-ghost use Rattle.lx_sheet.specs.Block.{AreApart, Covers, own_rows, row_at_place, cell, cue_level, last_value, level_in_look, width};
+ghost use Rattle.lx_sheet.specs.Block.{AreApart, HasPlaces, IsBlock, own_rows, row_at_place, cell, cue_level, last_value, level_in_look, width};
 ghost use Rattle.lx_sheet.specs.Marks.{Tells};
 ghost use Rattle.lx_sheet.specs.After.{level_after, IsEnd, IsRight, RowsFollow, FillsRows, IsPassed, IsLeft};
 
@@ -29,11 +27,7 @@ pub(crate) fn fill_from(
     from: usize,
     sure: usize,
 )
-    requires few { length look.old ≤ CHANNELS }
-    requires room { Covers (length look.old) levels.old order.now }
-    requires order { length order.now ≡ length cues.now }
-    requires rows { AreApart (own_rows order.now) }
-    requires valid { AllByRecursion (ValidCue (length look.old)) cues.now }
+    requires places { HasPlaces (length look.old) levels.old order.now cues.now }
     requires from { from ≤ length cues.now }
     ensures { FillsRows (length look.old) order.now cues.now levels.old levels.new from sure }
 {
@@ -50,11 +44,7 @@ pub(crate) fn fill_inserted(
     cues: &[Cue],
     at: usize,
 )
-    requires few { length look.old ≤ CHANNELS }
-    requires room { Covers (length look.old) levels.old order.now }
-    requires order { length order.now ≡ length cues.now }
-    requires rows { AreApart (own_rows order.now) }
-    requires valid { AllByRecursion (ValidCue (length look.old)) cues.now }
+    requires places { HasPlaces (length look.old) levels.old order.now cues.now }
     requires at { at < length cues.now }
     ensures { IsPassed (length look.old) order.now cues.now levels.old at
         → FillsRows (length look.old) order.now cues.now levels.old levels.new at (at + 1) }
@@ -77,11 +67,7 @@ pub(crate) fn fill_removed(
     at: usize,
     row: usize,
 )
-    requires few { length look.old ≤ CHANNELS }
-    requires room { Covers (length look.old) levels.old order.now }
-    requires order { length order.now ≡ length cues.now }
-    requires rows { AreApart (own_rows order.now) }
-    requires valid { AllByRecursion (ValidCue (length look.old)) cues.now }
+    requires places { HasPlaces (length look.old) levels.old order.now cues.now }
     requires at { at ≤ length cues.now }
     requires row { row < CUES }
     requires left { (row + 1) * width (length look.old) ≤ length levels.old }
@@ -121,10 +107,8 @@ pub(crate) fn reach(levels: &mut Vec<Level>, channels: usize, rows: usize)
 
 /// Takes up the levels of the last of this many cues, or 0 where there is none.
 fn recall(look: &mut [Level], levels: &[Level], order: &[Place], cues: usize)
-    requires few { length look.old ≤ CHANNELS }
-    requires room { Covers (length look.old) levels.now order.now }
+    requires block { IsBlock (length look.old) levels.now order.now }
     requires cues { cues ≤ length order.now }
-    requires rows { AreApart (own_rows order.now) }
     ensures { (c : ℕ) → level_in_look look.new c ≡ last_value cues (λ k. cue_level (length look.old) order.now levels.now k c) }
 {
     if cues == 0 {
@@ -180,11 +164,7 @@ fn fill_rows(
     from: usize,
     sure: usize,
 )
-    requires few { length look.old ≤ CHANNELS }
-    requires room { Covers (length look.old) levels.old order.now }
-    requires order { length order.now ≡ length cues.now }
-    requires rows { AreApart (own_rows order.now) }
-    requires valid { AllByRecursion (ValidCue (length look.old)) cues.now }
+    requires places { HasPlaces (length look.old) levels.old order.now cues.now }
     ensures front { (k c : ℕ) → k < from → k < length order.now
         → cue_level (length look.old) order.now levels.new k c ≡ cue_level (length look.old) order.now levels.old k c }
     ensures rows { ((c : ℕ) → level_in_look look.old c ≡ level_after (take from cues.now) c)
@@ -215,10 +195,7 @@ pub(crate) fn fill_column(
     to: usize,
     chan: Chan,
 ) -> usize
-    requires few { channels ≤ CHANNELS }
-    requires room { Covers channels levels.old order.now }
-    requires order { length order.now ≡ length cues.now }
-    requires rows { AreApart (own_rows order.now) }
+    requires places { HasPlaces channels levels.old order.now cues.now }
     requires from { from ≤ length cues.now }
     requires to { to ≤ length cues.now }
     requires within { chan ≤ channels }
@@ -271,10 +248,8 @@ pub(crate) fn level_before(
     cues: usize,
     at: usize,
 ) -> Level
-    requires few { channels ≤ CHANNELS }
-    requires room { Covers channels levels.now order.now }
+    requires block { IsBlock channels levels.now order.now }
     requires cues { cues ≤ length order.now }
-    requires rows { AreApart (own_rows order.now) }
     requires within { at < channels }
     ensures { result ≡ last_value cues (λ k. cue_level channels order.now levels.now k (at + 1)) }
 {

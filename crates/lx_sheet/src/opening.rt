@@ -1,9 +1,9 @@
 //! A sheet is filled in whole, as at the opening: the rows of all cues and their marks, in one pass over the moves. No call takes memory.
 
-ghost use Rattle.std.specs.Prelude.{◌≡◌, ℕ, ◌+◌, ◌*◌, ◌<◌, ◌≤◌, IfSome, length, max, slice_get, take, vec_capacity};
+ghost use Rattle.std.specs.Prelude.{◌≡◌, ℕ, ◌+◌, ◌*◌, ◌<◌, ◌≤◌, get_or, length, max, take, vec_capacity};
 ghost use Rattle.std.specs.List.{AllByRecursion};
 ghost use Rattle.lx_base.specs.declared.TheConstants.{CUES, CHANNELS};
-ghost use Rattle.lx_spec.specs.Show.{ValidCue};
+ghost use Rattle.lx_spec.specs.Show.{Cue as CueData, ValidCue};
 ghost use Rattle.lx_sheet.specs.Block.{cell, width};
 ghost use Rattle.lx_sheet.specs.Marks.{IsGrown, IsMarkTable, IsMarkedFor, IsReached};
 ghost use Rattle.lx_sheet.specs.After.{level_after};
@@ -29,7 +29,8 @@ pub(crate) fn fill_all(levels: &mut Vec<Level>, look: &mut [Level], marks: &mut 
     ensures room { vec_capacity levels.old ≤ vec_capacity levels.new }
     ensures table { IsGrown marks.old marks.new }
     ensures reach { (r : ℕ) → r < length cues.now → IsReached marks.new r }
-    ensures marks { (k : ℕ) → k < length cues.now → IfSome (slice_get cues.now k) (IsMarkedFor (length look.old) marks.new k) }
+    ensures marks { (k : ℕ) (cue : CueData) → k < length cues.now → cue ≡ get_or cues.now k cue
+        → IsMarkedFor (length look.old) marks.new k cue }
 {
     look.fill(0);
     for place in 0..cues.len() {

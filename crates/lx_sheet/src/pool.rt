@@ -3,9 +3,9 @@
 ghost use Rattle.std.specs.Prelude.{◌≡◌, ◌≤◌, ◌-◌, ℕ, None, IfSome, length, map, insert, remove, reverse, vec_capacity};
 ghost use Rattle.std.specs.List.{range_with_len};
 ghost use Rattle.lx_base.specs.declared.TheConstants.{CUES};
-ghost use Rattle.lx_spec.specs.SortedList.{IsStrictlySorted, entry_at};
+ghost use Rattle.lx_spec.specs.SortedList.{entry_at};
 ghost use Rattle.lx_show.specs.Indexes.{StandsAt, GoesAt};
-ghost use Rattle.lx_sheet.specs.Block.{IsPool, placed_from, row_at_place};
+ghost use Rattle.lx_sheet.specs.Block.{IsOrder, placed_from, row_at_place};
 
 use crate::sheet::Place;
 use lx_base::{CUES, CueNo};
@@ -14,13 +14,8 @@ use lx_show::sorted::index_of;
 
 /// Gives the cue a free row, and answers its place in the order. `None` where it has a row, or none is free.
 pub(crate) fn add_place(order: &mut Vec<Place>, free: &mut Vec<usize>, n: CueNo) -> Option<usize>
-    requires sorted { IsStrictlySorted (λ p. p.cue) order.old.items }
-    requires pool { IsPool order.old.items free.old.items }
-    requires room { CUES ≤ vec_capacity order.old }
-    ensures sorted { IsStrictlySorted (λ p. p.cue) order.new.items }
-    ensures pool { IsPool order.new.items free.new.items }
-    ensures room { vec_capacity order.new ≡ vec_capacity order.old }
-    ensures free_room { vec_capacity free.new ≡ vec_capacity free.old }
+    requires { IsOrder order.old.items (vec_capacity order.old) free.old.items (vec_capacity free.old) }
+    ensures kept { IsOrder order.new.items (vec_capacity order.new) free.new.items (vec_capacity free.new) }
     ensures goes { IfSome result (GoesAt (λ p. p.cue) n order.old.items) }
     ensures added { IfSome result (λ at. order.new.items
         ≡ insert order.old.items at (record { cue = n; row = row_at_place order.new.items at })) }
@@ -48,12 +43,8 @@ pub(crate) struct Freed {
 
 /// Frees the row of the cue, and answers it. `None` where it has no row.
 pub(crate) fn drop_place(order: &mut Vec<Place>, free: &mut Vec<usize>, n: CueNo) -> Option<Freed>
-    requires sorted { IsStrictlySorted (λ p. p.cue) order.old.items }
-    requires pool { IsPool order.old.items free.old.items }
-    requires free_room { CUES ≤ vec_capacity free.old }
-    ensures sorted { IsStrictlySorted (λ p. p.cue) order.new.items }
-    ensures pool { IsPool order.new.items free.new.items }
-    ensures rooms { (vec_capacity order.new ≡ vec_capacity order.old) × (vec_capacity free.new ≡ vec_capacity free.old) }
+    requires { IsOrder order.old.items (vec_capacity order.old) free.old.items (vec_capacity free.old) }
+    ensures kept { IsOrder order.new.items (vec_capacity order.new) free.new.items (vec_capacity free.new) }
     ensures stands { IfSome result (λ freed. StandsAt (λ p. p.cue) n order.old.items freed.at) }
     ensures dropped { IfSome result (λ freed. order.new.items ≡ remove order.old.items freed.at) }
     ensures row { IfSome result (λ freed. freed.row ≡ row_at_place order.old.items freed.at) }

@@ -1,11 +1,10 @@
 use Rattle.lx_sheet.proofs.Imports.{◌≡◌, ◌≢◌, ℕ, ◌+◌, ◌*◌, ◌-◌, ◌<◌, ◌≤◌, false, cond, Bool, List, length, take, set}
-use Rattle.lx_sheet.proofs.Imports.{Option, Some, ap, sym, ◌∙◌, subst, inl, inr, arith, IfSome, slice_get, cases_eq, get_or_default, slice_get-get_or}
-use Rattle.lx_sheet.proofs.Imports.{Cue, decides, level_in, Place, cell, cue_level, row_at_place, last_value, width, level_after, tracked_on}
-use Rattle.lx_sheet.proofs.Cells.{cell-set_here, cell-set_other}
+use Rattle.lx_sheet.proofs.Imports.{Some, ap, sym, ◌∙◌, inl, inr, arith, IfSome, slice_get, cases_eq, get_or_default, slice_get-get_or}
+use Rattle.lx_sheet.proofs.Imports.{Cue, decides, level_in, Place, cue_level, row_at_place, last_value, width, level_after, tracked_on}
+use Rattle.lx_sheet.proofs.Cells.{cell-set_here, cell-set_other, within_block}
 use Rattle.lx_sheet.proofs.BlockReach.{covered_at}
 use Rattle.lx_sheet.proofs.LevelsAfter.{level_after-take}
 use Rattle.lx_sheet.proofs.RowPool.{rows_differ}
-use Rattle.lx_sheet.proofs.Imports.{mul-le-mul_right, CUES}
 use Rattle.lx_sheet.proofs.block.fill_column.Goals as goal
 use Rattle.lx_sheet.proofs.block.fill_column.Goals.{then-decides_at+else-place-sure, else-decides_at}
 
@@ -24,19 +23,16 @@ loop-place-preserved c =
     let least : 1 ≤ c.get.result = c.get.ensures.least in
     let most : c.get.result ≤ n = omega (arith, c.requires.within) in
     let within : place < length cues = omega (arith, c.loop-place-test.true, c.requires.to) in
-    let there : place < length order = omega (arith, c.requires.order, within) in
+    let there : place < length order = omega (arith, c.requires.places.places, within) in
     let end : row * width n + n ≤ length c.loop-place.levels =
-    subst (λ r. r * width n + n ≤ length c.loop-place.levels) (sym of_row)
-    (omega (arith, covered_at n c.args.levels.now order place c.requires.room there)) in
+    rw of_row (omega (arith, covered_at place c.requires.places.block there)) in
     let new = set c.loop-place.levels (row * width n + (c.get.result - 1)) level in
     let here : cue_level n order new place chan ≡ level =
-    ap (λ r. cell n new r chan) (sym of_row)
-    ∙ subst (λ (x : ℕ). cell n new row x ≡ level) is
-    (cell-set_here n c.loop-place.levels row c.get.result level least most (omega arith)) in
+    rw (← of_row, ← is) (cell-set_here n c.loop-place.levels row c.get.result level least most (omega arith)) in
     let others : (k : ℕ) → k ≢ place → k < length order
     → cue_level n order new k chan ≡ cue_level n order c.loop-place.levels k chan = λ k other inside.
     cell-set_other n c.loop-place.levels row (row_at_place order k) c.get.result chan level least most
-    (λ e _. rows_differ order k place c.requires.rows inside there other (e ∙ of_row)) in
+    (λ e _. rows_differ k place c.requires.places.block inside there other (e ∙ of_row)) in
     let step : level ≡ tracked_on cue chan c.loop-place.level = elim c.if-decides_at.branch [
       | then-decides_at+else-place-sure w ↦
           let same : w.index-cues-place-then-decides_at.result ≡ cue = w.index-cues-place-then-decides_at.is
@@ -52,8 +48,7 @@ loop-place-preserved c =
     λ start. step ∙ ap (tracked_on cue chan) (c.loop-place.invariant.level start)
     ∙ sym (level_after-take cues place cue chan within c.index-cues-place.is) in
     let passes : c.args.sure ≤ place → IfSome (slice_get cues place) (λ x. decides x chan ≡ false) = λ sure.
-    subst (λ (o : Option Cue). IfSome o (λ x. decides x chan ≡ false))
-    (sym (slice_get-get_or cues place cue within ∙ ap Some (sym c.index-cues-place.is)))
+    rw (slice_get-get_or cues place cue within ∙ ap Some (sym c.index-cues-place.is))
     (elim c.if-decides_at.branch [
       | then-decides_at+else-place-sure w ↦ absurd (omega (arith, w.if-place-sure.false, sure))
       | else-decides_at w ↦ sym c.decides_at.ensures ∙ w.if-decides_at.false
@@ -61,101 +56,36 @@ loop-place-preserved c =
     record {
       level = tracks;
       passed = λ k from sure below. elim (cases_eq k place) [
-        | inl e ↦ subst (λ p. IfSome (slice_get cues p) (λ x. decides x chan ≡ false)) (sym e) (passes (omega (arith, e, sure)))
+        | inl e ↦ rw e (passes (omega (arith, e, sure)))
         | inr apart ↦ c.loop-place.invariant.passed k from sure (omega arith)
       ];
       others = λ r x other. cell-set_other n c.loop-place.levels row r c.get.result x level least most
           (λ _ e. other (e ∙ is)) ∙ c.loop-place.invariant.others r x other;
       front = λ k less. others k (λ e. omega arith) (omega arith) ∙ c.loop-place.invariant.front k less;
-      back = λ k more inside. others k (λ e. omega arith) (omega (arith, c.requires.order, inside))
-          ∙ c.loop-place.invariant.back k (omega arith) inside;
-      past = λ k more inside. others k (λ e. omega (arith, e, more, c.loop-place-test.true)) (omega (arith, c.requires.order, inside))
-          ∙ c.loop-place.invariant.past k more inside;
+      back = λ k more inside. others k (λ e. omega (arith, e, more, c.loop-place-test.true))
+          (omega (arith, c.requires.places.places, inside))
+          ∙ c.loop-place.invariant.back k (omega (arith, more, c.loop-place-test.true)) inside;
       rows = λ start k from below. elim (cases_eq k place) [
-        | inl e ↦ ap (λ p. cue_level n order new p chan) e ∙ here ∙ tracks start
-            ∙ ap (λ p. level_after (take (p + 1) cues) chan) (sym e)
+        | inl e ↦ rw e (here ∙ tracks start)
         | inr apart ↦ others k apart (omega arith) ∙ c.loop-place.invariant.rows start k from (omega arith)
       ];
     }
 
--- a row of the block begins below its end
-within_block : (row channels : ℕ) → row < CUES → row * (channels + 64) ≤ CUES * (channels + 64)
-within_block row channels within = mul-le-mul_right {m = row} {n = CUES} (channels + 64) (omega (arith, within))
-
-pub overflow_cast-at : goal.overflow_cast-at
-overflow_cast-at c = omega (arith, c.get.ensures.most)
-
-pub overflow_sub-at : goal.overflow_sub-at
-overflow_sub-at c = c.get.ensures.least
-
-pub overflow_add-width : goal.overflow_add-width
-overflow_add-width c = omega (arith, c.requires.few)
-
-pub level_before-level-requires-clause-few : goal.level_before-level-requires-clause-few
-level_before-level-requires-clause-few c = c.requires.few
-
-pub level_before-level-requires-clause-room : goal.level_before-level-requires-clause-room
-level_before-level-requires-clause-room c = c.requires.room
-
-pub level_before-level-requires-clause-cues : goal.level_before-level-requires-clause-cues
-level_before-level-requires-clause-cues c = omega (arith, c.requires.from, c.requires.order)
-
-pub level_before-level-requires-clause-rows : goal.level_before-level-requires-clause-rows
-level_before-level-requires-clause-rows c = c.requires.rows
-
-pub level_before-level-requires-clause-within : goal.level_before-level-requires-clause-within
-level_before-level-requires-clause-within c = omega (arith, c.get.ensures.value, c.get.ensures.least, c.requires.within)
-
-pub own_row-row-requires-clause-place : goal.own_row-row-requires-clause-place
-own_row-row-requires-clause-place c = omega (arith, c.loop-place-test.true, c.requires.to, c.requires.order)
-
-pub own_row-row-requires-clause-rows : goal.own_row-row-requires-clause-rows
-own_row-row-requires-clause-rows c = c.requires.rows
-
-pub bounds-cues-place : goal.bounds-cues-place
-bounds-cues-place c = omega (arith, c.loop-place-test.true, c.requires.to)
-
-pub decides_at-requires-clause-row : goal.decides_at-requires-clause-row
-decides_at-requires-clause-row c = c.own_row-row.ensures.within
-
-pub returns-then-place-sure-clause-others : goal.returns-then-place-sure-clause-others
-returns-then-place-sure-clause-others c = c.loop-place.invariant.others
-
-pub returns-then-place-sure-clause-front : goal.returns-then-place-sure-clause-front
-returns-then-place-sure-clause-front c = c.loop-place.invariant.front
-
-pub returns-then-place-sure-clause-back : goal.returns-then-place-sure-clause-back
-returns-then-place-sure-clause-back c = c.loop-place.invariant.back
-
-pub returns-then-place-sure-clause-rows : goal.returns-then-place-sure-clause-rows
-returns-then-place-sure-clause-rows c = c.loop-place.invariant.rows
-
-pub bounds-cues-place-then-decides_at : goal.bounds-cues-place-then-decides_at
-bounds-cues-place-then-decides_at c = omega (arith, c.loop-place-test.true, c.requires.to)
-
 pub overflow_mul-levels : goal.overflow_mul-levels
-overflow_mul-levels c = omega (arith, within_block c.own_row-row.result c.args.channels c.own_row-row.ensures.within, c.requires.few)
-
-pub overflow_add-levels : goal.overflow_add-levels
-overflow_add-levels c =
-    omega (arith, within_block c.own_row-row.result c.args.channels c.own_row-row.ensures.within, c.requires.few, c.get.ensures.most)
+overflow_mul-levels c = omega (
+  arith,
+  within_block c.own_row-row.result c.args.channels c.own_row-row.ensures.within,
+  c.requires.places.block.few,
+)
 
 pub bounds-levels-row : goal.bounds-levels-row
 bounds-levels-row c =
-    let there : c.loop-place.place < length c.args.order.now = omega (arith, c.loop-place-test.true, c.requires.to, c.requires.order) in
+    let there : c.loop-place.place < length c.args.order.now = omega (
+      arith,
+      c.loop-place-test.true,
+      c.requires.to,
+      c.requires.places.places,
+    ) in
     let end : (c.own_row-row.result + 1) * width c.args.channels ≤ length c.args.levels.now =
-    subst (λ r. (r + 1) * width c.args.channels ≤ length c.args.levels.now) (sym c.own_row-row.ensures.row)
-    (covered_at c.args.channels c.args.levels.now c.args.order.now c.loop-place.place c.requires.room there) in
+    rw c.own_row-row.ensures.row (covered_at c.loop-place.place c.requires.places.block there) in
     omega (arith, end, c.loop-place.auto.levels, c.get.ensures.value, c.get.ensures.least, c.requires.within)
-
-pub returns-clause-others : goal.returns-clause-others
-returns-clause-others c = c.loop-place.invariant.others
-
-pub returns-clause-front : goal.returns-clause-front
-returns-clause-front c = c.loop-place.invariant.front
-
-pub returns-clause-back : goal.returns-clause-back
-returns-clause-back c = c.loop-place.invariant.past
-
-pub returns-clause-rows : goal.returns-clause-rows
-returns-clause-rows c = λ start k least less. c.loop-place.invariant.rows start k least (omega (arith, less, c.loop-place-test.false))

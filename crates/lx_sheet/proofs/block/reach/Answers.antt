@@ -1,4 +1,4 @@
-use Rattle.lx_sheet.proofs.Imports.{◌≡◌, ◌-◌, ◌*◌, ◌++◌, ℕ, List, take, vec_len, ap, ◌∙◌, arith, replicate, take_all, cell, width}
+use Rattle.lx_sheet.proofs.Imports.{◌-◌, ◌*◌, ℕ, List, vec_len, arith, take_all, width}
 use Rattle.lx_sheet.proofs.BlockReach.{cell_grown}
 use Rattle.lx_sheet.proofs.block.reach.Goals as goal
 
@@ -6,8 +6,5 @@ pub returns-in-Ok-clause-same : goal.returns-in-Ok-clause-same
 returns-in-Ok-clause-same c = λ row chan.
     let old : List ℕ = c.args.levels.now.items in
     let more : ℕ = c.args.rows * width c.args.channels - vec_len c.args.levels.now in
-    let whole : take (c.args.rows * width c.args.channels) old ≡ old = take_all (c.args.rows * width c.args.channels) old (omega
-    (arith, c.args.levels.now.ok)) in
-    let grown : c.resize.new.self.items ≡ old ++ replicate more 0 = c.in-Ok.ensures.items
-    ∙ ap (λ (xs : List ℕ). xs ++ replicate more 0) whole in
-    ap (λ (xs : List ℕ). cell c.args.channels xs row chan) grown ∙ cell_grown c.args.channels old more row chan
+    rw (c.in-Ok.ensures.items, take_all (c.args.rows * width c.args.channels) old (omega (arith, c.args.levels.now.ok)))
+    (cell_grown c.args.channels old more row chan)

@@ -1,5 +1,6 @@
 use Rattle.lx_sheet.proofs.Imports.{◌≡◌, length, map, ap, sym, ◌∙◌, subst, Some, ℕ, rules, Option, Cue, count_under}
-use Rattle.lx_sheet.proofs.RightRows.{count_under-map, until}
+use Rattle.lx_sheet.proofs.Numbers.{count_under-map}
+use Rattle.lx_sheet.proofs.RightRows.{until}
 use Rattle.lx_sheet.proofs.edits.count_below.Goals as goal
 
 pub returns-in-Some : goal.returns-in-Some

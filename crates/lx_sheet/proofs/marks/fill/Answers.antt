@@ -1,4 +1,4 @@
-use Rattle.lx_sheet.proofs.Imports.{◌≡◌, ◌≢◌, ℕ, ◌<◌, List, length, get_or, set, ap, sym, ◌∙◌, subst, inl, inr, arith, cases_eq}
+use Rattle.lx_sheet.proofs.Imports.{◌≡◌, ◌≢◌, ℕ, ◌<◌, List, length, get_or, set, ◌∙◌, inl, inr, arith, cases_eq}
 use Rattle.lx_sheet.proofs.Imports.{get_or-set_same, word_place}
 use Rattle.lx_sheet.proofs.MarkWords.{place_within, word_other}
 use Rattle.lx_sheet.proofs.marks.fill.Goals as goal
@@ -12,14 +12,13 @@ loop-group-preserved c =
     let words : List ℕ = c.loop-group.words in
     let at : c.place_of.result ≡ word_place groups row group = c.place_of.ensures in
     let next : List ℕ = set words c.place_of.result word in
-    let other : (r g : ℕ) → g < groups → (r ≡ row → g ≢ group) → get_or next (word_place groups r g) 0 ≡ get_or words (word_place groups r g) 0 =
-    λ r g low apart. ap (λ n. get_or (set words n word) (word_place groups r g) 0) at
-    ∙ word_other groups words row group word r g c.loop-group-test.true low apart in
+    let other : (r g : ℕ) → g < groups → (r ≡ row → g ≢ group) → get_or next (word_place groups r g) 0 ≡ get_or words
+    (word_place groups r g) 0 =
+    λ r g low apart. rw at (word_other groups words row group word r g c.loop-group-test.true low apart) in
     record {
       here = λ g less. elim (cases_eq g group) [
-        | inl e ↦ ap (λ n. get_or next (word_place groups row n) 0) e ∙ ap (λ n. get_or next n 0) (sym at)
-            ∙ get_or-set_same words c.place_of.result word 0
-            (subst (λ n. n < length words) (sym at) (place_within groups row group (length words) c.loop-group-test.true (omega arith)))
+        | inl e ↦ rw (e, ← at) (get_or-set_same words c.place_of.result word 0
+            (rw at (place_within groups row group (length words) c.loop-group-test.true (omega arith))))
         | inr apart ↦ other row g (omega arith) (λ _ e. apart e) ∙ c.loop-group.invariant.here g (omega arith)
       ];
       others = λ r g apart low. other r g low (λ e _. apart e) ∙ c.loop-group.invariant.others r g apart low;

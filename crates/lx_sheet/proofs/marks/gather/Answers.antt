@@ -1,5 +1,5 @@
-use Rattle.lx_sheet.proofs.Imports.{◌≡◌, ℕ, ◌+◌, ◌-◌, List, get_or, ap, sym, ◌∙◌, subst, inl, inr, arith, w64, bit_or, cases_eq}
-use Rattle.lx_sheet.proofs.Imports.{bit_at_ones, bit_at_set_same, bit_at, Move, IsBitOf, bit_of, chan_at, group_of}
+use Rattle.lx_sheet.proofs.Imports.{◌≡◌, ℕ, ◌+◌, ◌-◌, List, get_or, ap, sym, ◌∙◌, inl, inr, arith, w64, cases_eq}
+use Rattle.lx_sheet.proofs.Imports.{bit_at_ones, bit_at_set_same, Move, bit_of, chan_at, group_of}
 use Rattle.lx_sheet.proofs.MarkWords.{bit_left, chan_is, same_group}
 use Rattle.lx_sheet.proofs.marks.gather.Goals as goal
 
@@ -25,13 +25,10 @@ loop-end-preserved c = λ k least less.
     let read : Move = get_or moves end c.index-moves-end.result in
     let here : chan_at moves end ≡ read.chan = chan_is moves end c.index-moves-end.result c.loop-end-test.true in
     elim (cases_eq k end) [
-      | inl at ↦ subst (IsBitOf moves from (bit_or bits c.bit_of-bits.result)) (sym at) (record {
+      | inl at ↦ rw at (record {
         group = ap group_of here ∙ sym c.group_of-in-loop-end.ensures ∙ c.if-group_of-group-2.false ∙ c.group_of-group.ensures
             ∙ sym (ap group_of (chan_is moves from c.index-moves-from.result c.requires.from));
-        bit =
-            ap (λ n. bit_at (bit_or bits c.bit_of-bits.result) (bit_of n)) here
-            ∙ ap (λ b. bit_at (bit_or bits b) (bit_of read.chan)) c.bit_of-bits.ensures
-            ∙ bit_at_set_same w64 bits (bit_of read.chan) (omega arith);
+        bit = rw (here, c.bit_of-bits.ensures) (bit_at_set_same w64 bits (bit_of read.chan) (omega arith));
       })
       | inr apart ↦
           let was = c.loop-end.invariant k least (omega arith) in

@@ -1,5 +1,5 @@
-use Rattle.lx_sheet.proofs.Imports.{◌≡◌, ℕ, ◌+◌, ◌*◌, ◌/◌, ◌<◌, ◌≤◌, List, length, get_or, set, ap, sym, ◌∙◌, subst, inl}
-use Rattle.lx_sheet.proofs.Imports.{inr, arith, bit_or, cases_lt, Move, chan_at, group_of, row_bit, word_place}
+use Rattle.lx_sheet.proofs.Imports.{◌≡◌, ℕ, ◌+◌, ◌*◌, ◌/◌, ◌<◌, ◌≤◌, List, length, get_or, ap, sym, ◌∙◌, subst, inl}
+use Rattle.lx_sheet.proofs.Imports.{inr, arith, cases_lt, Move, chan_at, group_of, row_bit, word_place}
 use Rattle.lx_sheet.proofs.MarkWords.{bit_added, bit_kept, chan_found, chan_is, group_within, word_other}
 use Rattle.lx_sheet.proofs.marks.mark_moves.Goals as goal
 
@@ -33,18 +33,16 @@ loop-next-preserved c =
     let reach : (row / 64 + 1) * groups * 64 ≤ length words = omega (arith, c.requires.reach, c.loop-next.auto.words) in
     record {
       most = c.gather-stretch.ensures.most;
-      here = λ k less. subst (λ p. row_bit groups (set words p (bit_or (get_or words p 0) bits)) row (chan_at moves k) ≡ 1) (sym at)
-          (elim (cases_lt k next) [
-            | inl before ↦
-                bit_kept groups words row group bits (chan_at moves k) within reach
-                (group_within groups k moves (omega arith) c.requires.within) (c.loop-next.invariant.here k before)
-            | inr from ↦
-                let is = c.gather-stretch.ensures.bits k from less in
-                bit_added groups words row group bits (chan_at moves k) within reach (is.group ∙ first) is.bit
-          ]);
+      here = λ k less. rw at (elim (cases_lt k next) [
+        | inl before ↦
+            bit_kept groups words row group bits (chan_at moves k) within reach
+            (group_within groups k moves (omega arith) c.requires.within) (c.loop-next.invariant.here k before)
+        | inr from ↦
+            let is = c.gather-stretch.ensures.bits k from less in
+            bit_added groups words row group bits (chan_at moves k) within reach (is.group ∙ first) is.bit
+      ]);
       others = λ r g apart low.
-          ap (λ p. get_or (set words p (bit_or (get_or words p 0) bits)) (word_place groups r g) 0) at
-          ∙ word_other groups words row group _ r g within low (λ e _. apart e)
+          rw at (word_other groups words row group _ r g within low (λ e _. apart e))
           ∙ c.loop-next.invariant.others r g apart low;
     }
 

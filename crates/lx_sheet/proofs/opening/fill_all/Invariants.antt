@@ -1,4 +1,4 @@
-use Rattle.lx_sheet.proofs.Imports.{◌≡◌, ℕ, ◌+◌, ◌*◌, ◌<◌, ◌≤◌, length, max, take, vec_capacity, IfSome, slice_get, cell}
+use Rattle.lx_sheet.proofs.Imports.{◌≡◌, ℕ, ◌+◌, ◌*◌, ◌<◌, ◌≤◌, length, max, take, vec_capacity, get_or, Cue, cell}
 use Rattle.lx_sheet.proofs.Imports.{level_in_look, width, IsGrown, IsMarkedFor, IsReached, level_after}
 use Rattle.lx_sheet.proofs.opening.fill_all.Given as goal
 
@@ -10,5 +10,5 @@ invariant-loop-place l = record {
   room : vec_capacity l.fn.levels ≤ vec_capacity l.levels;
   table : IsGrown l.fn.marks l.marks;
   reach : (r : ℕ) → r < l.place → IsReached l.marks r;
-  marks : (k : ℕ) → k < l.place → IfSome (slice_get l.cues k) (IsMarkedFor (length l.fn.look) l.marks k);
+  marks : (k : ℕ) (cue : Cue) → k < l.place → cue ≡ get_or l.cues k cue → IsMarkedFor (length l.fn.look) l.marks k cue;
 }

@@ -1,7 +1,6 @@
 use Rattle.lx_sheet.proofs.Imports.{◌≡◌, ◌+◌, ◌∷◌, [], ◌++◌, ℕ, List, length, take, sym, ap, ◌∙◌, arith, length-take, take_more}
-use Rattle.lx_sheet.proofs.Imports.{Cue, Place, placed_from}
-use Rattle.lx_sheet.proofs.EditedShows.{placed_from-more}
-use Rattle.lx_sheet.proofs.RowPool.{length-placed_from}
+use Rattle.lx_sheet.proofs.Imports.{Cue, placed_from}
+use Rattle.lx_sheet.proofs.ListedRows.{length-placed_from, placed_from-more}
 use Rattle.lx_sheet.proofs.pool.list_cues.Goals as goal
 
 pub push_reserved-requires : goal.push_reserved-requires
@@ -27,10 +26,7 @@ loop-row-preserved c =
     record {
       order =
           c.push_reserved.ensures.items
-          ∙ ap (λ (ps : List Place). ps ++ record { cue = c.cue.inside.number; row = row } ∷ []) c.loop-row.invariant.order
-          ∙ ap (λ (n : ℕ). placed_from 0 (take row cues) ++ record { cue = n; row = row } ∷ []) number
-          ∙ ap (λ (r : ℕ). placed_from 0 (take row cues) ++ record { cue = cue.number; row = r } ∷ []) at
-          ∙ sym (placed_from-more 0 (take row cues) cue)
-          ∙ sym (ap (placed_from 0) more);
+          ∙ rw (c.loop-row.invariant.order, number, more, placed_from-more 0 (take row cues) cue)
+          (ap (λ (r : ℕ). placed_from 0 (take row cues) ++ record { cue = cue.number; row = r } ∷ []) at);
       room = omega (arith, c.push_reserved.ensures.capacity, c.loop-row.invariant.room);
     }

@@ -1,8 +1,7 @@
-use Rattle.lx_sheet.proofs.Imports.{◌≡◌, ◌+◌, ◌-◌, ◌/◌, ◌%◌, ◌++◌, ℕ, List, get_or, min, take, vec_len, ap, ◌∙◌, arith}
-use Rattle.lx_sheet.proofs.Imports.{replicate, ◌==◌, bit_at, mul-le-mul_right, take_all, bit_of, group_of, word_place}
+use Rattle.lx_sheet.proofs.Imports.{◌+◌, ◌-◌, ◌/◌, ◌%◌, ℕ, List, min, vec_len, ap, arith}
+use Rattle.lx_sheet.proofs.Imports.{◌==◌, bit_at, mul-le-mul_right, take_all, bit_of, group_of, word_place}
 use Rattle.lx_sheet.specs.Marks.{has_mark}
 use Rattle.lx_sheet.proofs.BlockReach.{grown}
-use Rattle.lx_sheet.proofs.Imports.{refl}
 use Rattle.lx_sheet.proofs.marks.Marks.reach.Goals as goal
 
 pub returns-in-Ok-clause-same : goal.returns-in-Ok-clause-same
@@ -10,11 +9,8 @@ unfolding has_mark
 returns-in-Ok-clause-same c = λ row chan.
     let old : List ℕ = c.args.self.now.words.items in
     let more : ℕ = c.words_of-end.result - vec_len c.args.self.now.words in
-    let whole : take c.words_of-end.result old ≡ old = take_all c.words_of-end.result old (omega (arith, c.args.self.now.words.ok)) in
-    let longer : c.resize.new.self.items ≡ old ++ replicate more 0 = c.in-Ok.ensures.items
-    ∙ ap (λ (xs : List ℕ). xs ++ replicate more 0) whole in
-    let at : ℕ = word_place c.args.self.now.groups row (group_of chan) in
-    ap (λ w. bit_at w (bit_of chan) == 1) (ap (λ (xs : List ℕ). get_or xs at 0) longer ∙ grown old more at)
+    rw (c.in-Ok.ensures.items, take_all c.words_of-end.result old (omega (arith, c.args.self.now.words.ok)))
+    (ap (λ w. bit_at w (bit_of chan) == 1) (grown old more (word_place c.args.self.now.groups row (group_of chan))))
 
 pub returns-else-len-end-clause-reach : goal.returns-else-len-end-clause-reach
 returns-else-len-end-clause-reach c = λ row less.
@@ -27,12 +23,6 @@ returns-else-len-end-clause-reach c = λ row less.
       c.args.self.now.words.ok,
     )
 
-pub words_of-end-requires-clause-rows : goal.words_of-end-requires-clause-rows
-words_of-end-requires-clause-rows c = c.requires.rows
-
-pub words_of-end-requires-clause-groups : goal.words_of-end-requires-clause-groups
-words_of-end-requires-clause-groups c = c.requires.few
-
 pub returns-in-Ok-clause-reach : goal.returns-in-Ok-clause-reach
 returns-in-Ok-clause-reach c = λ row less.
     let rows : ℕ = c.args.rows in
@@ -43,6 +33,3 @@ returns-in-Ok-clause-reach c = λ row less.
       c.in-Ok.ensures.len,
       c.resize.new.self.ok,
     )
-
-pub returns-else-len-end-clause-same : goal.returns-else-len-end-clause-same
-returns-else-len-end-clause-same c = λ row chan. refl

@@ -1,25 +1,17 @@
-use Rattle.lx_sheet.proofs.Imports.{◌≡◌, ℕ, ◌+◌, ◌-◌, ◌*◌, ◌<◌, ◌≤◌, List, length, get_or, take, drop, map, ap, sym, ◌∙◌}
-use Rattle.lx_sheet.proofs.Imports.{subst, arith, nat_le, shorter, entries_up_to, Place, Sheet, level_of, AreApart, own_rows, row_at_place, width}
+use Rattle.lx_sheet.proofs.Imports.{◌≡◌, ℕ, ◌+◌, ◌-◌, ◌<◌, List, length, map, ap, sym, ◌∙◌}
+use Rattle.lx_sheet.proofs.Imports.{arith, nat_le, shorter, Place, Sheet, level_of}
 use Rattle.lx_sheet.proofs.Cells.{width_of}
 use Rattle.lx_sheet.proofs.BlockReach.{covered_at}
 use Rattle.lx_sheet.proofs.Found.{look_found, look_none}
-use Rattle.lx_sheet.proofs.RowPool.{own_apart}
-use Rattle.lx_sheet.proofs.Rows.{count_up_to, count_up_to-map}
+use Rattle.lx_sheet.proofs.Numbers.{count_up_to, count_up_to-map}
 use Rattle.lx_sheet.proofs.sheet.Sheet.look_at.Goals as goal
-
--- how many cues are up to the number, counted in the order that is lent
-counted : (n count : ℕ) (lent order : List Place) → count ≡ length (entries_up_to (λ p. p.cue) n lent) → lent ≡ order
-    → count ≡ count_up_to n (map (λ p. p.cue) order)
-counted n count lent order is same = is ∙ ap (λ (xs : List Place). length (entries_up_to (λ p. p.cue) n xs)) same
-    ∙ count_up_to-map (λ (p : Place). p.cue) n order
 
 pub returns-then-cues-eq0-clause-none : goal.returns-then-cues-eq0-clause-none
 returns-then-cues-eq0-clause-none c = λ none chan.
     let order : List Place = c.self.inside.order.items in
     sym (ap (λ (s : Sheet). level_of s c.args.n chan) c.self.view_is)
-    ∙ look_none c.self.inside.channels order c.self.inside.levels.items c.args.n chan c.self.invariant.sorted
-    (sym (counted c.args.n c.count_near-cues.result c.as_slice-order.result.now order c.count_near-cues.ensures
-    c.as_slice-order.ensures.value)
+    ∙ look_none c.self.inside.channels order c.self.inside.levels.items c.args.n chan c.self.invariant.kept.sorted
+    (sym ((rw c.as_slice-order.ensures.value at c.count_near-cues.ensures) ∙ count_up_to-map (λ (p : Place). p.cue) c.args.n order)
     ∙ c.if-cues-eq0.true)
 
 pub own_row-last-requires-clause-place : goal.own_row-last-requires-clause-place
@@ -32,15 +24,12 @@ own_row-last-requires-clause-place c = omega (
 
 pub own_row-last-requires-clause-rows : goal.own_row-last-requires-clause-rows
 own_row-last-requires-clause-rows c =
-    subst (λ (xs : List Place). AreApart (own_rows xs)) (sym c.as_slice-order.ensures.value)
-    (own_apart c.self.inside.order.items c.self.inside.free.items c.self.invariant.pool)
+    rw c.as_slice-order.ensures.value c.self.invariant.block.apart
 
 pub slice_bounds-result-end : goal.slice_bounds-result-end
 slice_bounds-result-end c =
     let order : List Place = c.self.inside.order.items in
     let last : ℕ = c.count_near-cues.result - 1 in
-    let row : c.own_row-last.result ≡ row_at_place order last = c.own_row-last.ensures.row
-    ∙ ap (λ (xs : List Place). row_at_place xs last) c.as_slice-order.ensures.value in
     let there : last < length order = omega (
       arith,
       c.if-cues-eq0.false,
@@ -48,10 +37,9 @@ slice_bounds-result-end c =
       shorter (λ (p : Place). nat_le p.cue c.args.n) c.as_slice-order.result.now,
       ap length c.as_slice-order.ensures.value,
     ) in
-    subst (λ r. r * width c.self.inside.channels + c.self.inside.channels ≤ length c.deref.result.now) (sym row)
-    (omega (
+    rw (c.own_row-last.ensures.row, c.as_slice-order.ensures.value) (omega (
       arith,
-      covered_at c.self.inside.channels c.self.inside.levels.items order last c.self.invariant.covered there,
+      covered_at last c.self.invariant.block there,
       ap length c.deref.ensures.value,
     ))
 
@@ -62,13 +50,8 @@ returns-clause-levels c = λ k less.
     let channels : ℕ = c.self.inside.channels in
     let cues : ℕ = c.count_near-cues.result in
     let count : cues ≡ count_up_to c.args.n (map (λ (p : Place). p.cue) order) =
-    counted c.args.n cues c.as_slice-order.result.now order c.count_near-cues.ensures c.as_slice-order.ensures.value in
-    let row : c.own_row-last.result ≡ row_at_place order (count_up_to c.args.n (map (λ (p : Place). p.cue) order) - 1) =
-    c.own_row-last.ensures.row ∙ ap (λ (xs : List Place). row_at_place xs (cues - 1)) c.as_slice-order.ensures.value
-    ∙ ap (λ j. row_at_place order (j - 1)) count in
+    (rw c.as_slice-order.ensures.value at c.count_near-cues.ensures) ∙ count_up_to-map (λ (p : Place). p.cue) c.args.n order in
     let long : k < channels = omega (arith, less, ap (λ (s : Sheet). s.channels) c.self.view_is) in
-    ap (λ n. get_or (take n (drop (c.own_row-last.result * width channels) c.deref.result.now)) k 0) (width_of c.own_row-last.result channels)
-    ∙ ap (λ (xs : List ℕ). get_or (take channels (drop (c.own_row-last.result * width channels) xs)) k 0) c.deref.ensures.value
-    ∙ ap (λ r. get_or (take channels (drop (r * width channels) levels)) k 0) row
-    ∙ look_found channels order levels c.args.n k c.self.invariant.sorted long (λ none. c.if-cues-eq0.false (count ∙ none))
+    rw (width_of c.own_row-last.result channels, c.deref.ensures.value, c.own_row-last.ensures.row, c.as_slice-order.ensures.value, count)
+    (look_found channels order levels c.args.n k c.self.invariant.kept.sorted long (λ none. c.if-cues-eq0.false (count ∙ none)))
     ∙ ap (λ (s : Sheet). level_of s c.args.n (k + 1)) c.self.view_is
