@@ -92,7 +92,7 @@ fn kept_above<H: Heap>(
     only: bool,
 ) -> Result<Option<Cue>, AllocError>
     requires there { FoundCue show.now n old.now }
-    requires number { IfSome new (λ cue. cue.now.number ≡ n) }
+    requires number { IfSome (option_copied new) (λ cue. cue.number ≡ n) }
     requires within { DecidesOutside within show.now.channels old.now (option_copied new) }
     ensures above { IfOk result (λ above. with_above above (changed_show show.now n (option_copied new.entry))
         ≡ cue_only only show.now n (changed_show show.now n (option_copied new.entry))) }
@@ -126,7 +126,7 @@ fn kept_moves<H: Heap>(
     within: ChanRange,
 ) -> Result<Vec<Move>, AllocError>
     requires there { FoundCue show.now n old.now }
-    requires number { IfSome new (λ cue. cue.now.number ≡ n) }
+    requires number { IfSome (option_copied new) (λ cue. cue.number ≡ n) }
     requires within { DecidesOutside within show.now.channels old.now (option_copied new) }
     requires above { cue_above show.now n ≡ Some above.now }
     ensures items { IfOk result (λ moves. moves.items
@@ -160,7 +160,7 @@ fn kept_level(
     near: &mut usize,
 ) -> Option<Level>
     requires there { FoundCue show.now n old.now }
-    requires number { IfSome new (λ cue. cue.now.number ≡ n) }
+    requires number { IfSome (option_copied new) (λ cue. cue.number ≡ n) }
     requires above { cue_above show.now n ≡ Some above.now }
     ensures { result ≡ (if not (tracked show.now above.now.number c == tracked
         (changed_show show.now n (option_copied new.entry)) above.now.number c) then Some
@@ -184,7 +184,7 @@ fn differs(
     near: &mut usize,
 ) -> bool
     requires there { FoundCue show.now n old.now }
-    requires number { IfSome new (λ cue. cue.now.number ≡ n) }
+    requires number { IfSome (option_copied new) (λ cue. cue.number ≡ n) }
     requires above { cue_above show.now n ≡ Some above.now }
     ensures { result ≡ not (tracked show.now above.now.number c == tracked
         (changed_show show.now n (option_copied new.entry)) above.now.number c) }

@@ -14,8 +14,8 @@ loop-k-init g c =
     let differs : ℕ → Bool = λ x. not (tracked show above.number x == tracked after above.number x) in
     let at : ℕ → Move = λ x. record { chan = x; part = 1; level = tracked show above.number x } in
     let fails : (x : ℕ) → 1 + 0 ≤ x → x < 1 + (first - 1) → differs x ≡ false = λ x low high.
-    unchanged show c.args.n c.args.old.now above c.args.new x c.channels-channels.ensures.valid.cues_sorted c.requires.there c.requires.number
-    c.requires.above (c.requires.within x (record { least = omega arith; most = omega arith }) (outside_low c.args.within x (omega arith))) in
+    unchanged show c.args.n c.args.old.now above (option_copied c.args.new) x c.requires.there c.requires.number c.requires.above
+    (c.requires.within x (record { least = omega arith; most = omega arith }) (outside_low c.args.within x (omega arith))) in
     record {
       items = c.new-moves.ensures.items ∙ sym (ap (λ (xs : List ℕ). map at xs) (none_past differs 1 0 (first - 1) (first - 1) (omega arith) fails));
       count = refl;
@@ -44,7 +44,7 @@ returns-clause-items g c =
     let at : ℕ → Move = λ x. record { chan = x; part = 1; level = tracked show above.number x } in
     let most : last ≤ show.channels = omega arith in
     let fails : (x : ℕ) → 1 + last ≤ x → x < 1 + show.channels → differs x ≡ false = λ x low high.
-    unchanged show c.args.n c.args.old.now above c.args.new x c.channels-channels.ensures.valid.cues_sorted c.requires.there c.requires.number
-    c.requires.above (c.requires.within x (record { least = omega arith; most = omega arith }) (outside_high c.args.within x (omega arith))) in
+    unchanged show c.args.n c.args.old.now above (option_copied c.args.new) x c.requires.there c.requires.number c.requires.above
+    (c.requires.within x (record { least = omega arith; most = omega arith }) (outside_high c.args.within x (omega arith))) in
     c.loop-k.invariant.items
     ∙ sym (ap (λ (xs : List ℕ). map at xs) (none_past differs 1 last (show.channels - last) show.channels (omega (arith, most)) fails))
