@@ -1,5 +1,5 @@
 -- Channels that see no difference where a cue is changed, added or taken out.
-use Rattle.lx_edit.proofs.Imports.{◌≡◌, ℕ, ◌-◌, ◌<◌, ◌≤◌, Bool, true, false, cond, List, [], ◌∷◌, ◌⊎◌, map, Some, None, refl}
+use Rattle.lx_edit.proofs.Imports.{◌≡◌, ℕ, ◌-◌, ◌<◌, ◌≤◌, Bool, true, false, cond, List, [], ◌∷◌, ◌⊎◌, ◌++◌, ◌==◌, map, Some, None, refl}
 use Rattle.lx_edit.proofs.Imports.{◌∙◌, sym, ap, subst, inl, inr, arith, Option, option_map, find, IfSome, IsTrue, is_some, ◌||◌, nat_le, reverse}
 use Rattle.lx_edit.proofs.Imports.{map-append, cases_Bool, option_map_or, IsSomeAnd, cases_eq, cases_lt, CHANNELS, Move, IsStrictlySorted, entry_at}
 use Rattle.lx_edit.proofs.Imports.{placed, entries_above, entries_below, Cue, Show, Valid, ValidCue, InRange, tracked, cue_of, move_of, level_in, decides}
@@ -99,16 +99,19 @@ past_alike : (c a b m : ℕ) (cues : List Cue)
     → IsSomeAnd (option_map (λ cue. cue.number) (find (λ cue. decides cue c) cues)) (λ end. end ≤ m)
     → walked c a (entries_up_to (λ cue. cue.number) m cues) ≡ walked c b (entries_up_to (λ cue. cue.number) m cues)
 past_alike c a b m [] past = absurd past
-past_alike c a b m (y ∷ ys) past = elim (cases_Bool (decides y c)) [
-  | inl here ↦
-      let low : y.number ≤ m = rw here at past in
-      rw (le_true y.number m low, here) refl
-  | inr other ↦
-      let rest = past_alike c a b m ys (rw other at past) in
-      elim (nat_le y.number m) as (λ t. walked c a (cond t (y ∷ entries_up_to (λ cue. cue.number) m ys) (entries_up_to (λ cue. cue.number) m ys))
-      ≡ walked c b (cond t (y ∷ entries_up_to (λ cue. cue.number) m ys) (entries_up_to (λ cue. cue.number) m ys)))
-      [ true ↦ rw other rest | false ↦ rest ]
-]
+past_alike c a b m (y ∷ ys) past =
+    let rest = entries_up_to (λ cue. cue.number) m ys in
+    let on : (t : Bool) → decides y c ≡ t → (base : ℕ) → walked c base (y ∷ rest) ≡ walked c (cond t (level_in y c) base) rest =
+    λ t is base. ap (λ e. walked c (cond e (level_in y c) base) rest) is in
+    elim (cases_Bool (decides y c)) [
+      | inl here ↦
+          let low : y.number ≤ m = rw here at past in
+          rw (le_true y.number m low) (on true here a ∙ sym (on true here b))
+      | inr other ↦
+          let same = past_alike c a b m ys (rw other at past) in
+          elim (nat_le y.number m) as (λ t. walked c a (cond t (y ∷ rest) rest) ≡ walked c b (cond t (y ∷ rest) rest))
+          [ true ↦ on false other a ∙ same ∙ sym (on false other b) | false ↦ same ]
+    ]
 
 pub alike_past : (show : Show) (cue : Cue) (n m c : ℕ) → Valid show → cue.number ≡ n → 1 ≤ n → IsPast None (with_cue show cue) n c m
     → tracked show m c ≡ tracked (with_cue show cue) m c

@@ -109,8 +109,8 @@ sees_moved show n entry old chans m was marked = rw m.found (λ c out. elim (cas
 -- The changed cue, and changed back.
 here_changed : (show : Show) (n : ℕ) (change : List Move → List Move) (m : Moved show n)
     → cue_of (with_moves_in show n change) n ≡ Some (record m.cue { moves = change m.cue.moves })
-here_changed show n change m = rw (changed_is show n change m.cue m.found)
-    (entry_at-placed_here (λ (x : Cue). x.number) n (record m.cue { moves = change m.cue.moves }) show.cues m.number)
+here_changed show n change m = ap (λ (s : Show). cue_of s n) (changed_is show n change m.cue m.found)
+    ∙ entry_at-placed_here (λ (x : Cue). x.number) n (record m.cue { moves = change m.cue.moves }) show.cues m.number
 
 changed_back : (show : Show) (n : ℕ) (change back : List Move → List Move) (m : Moved show n) → Valid show
     → back (change m.cue.moves) ≡ m.cue.moves → with_moves_in (with_moves_in show n change) n back ≡ show

@@ -51,7 +51,7 @@ room_for show n None above old valid is number here =
       ap length (below_and_above key n show.cues valid.cues_sorted),
     ) in
     let most : length show.cues ≤ CUES = valid.few_cues in
-    or_right _ _ (lt_true _ CUES (omega (arith, less, most, no_more show n above here)))
+    or_right _ _ (lt_true (length (with_above above (changed_show show n None)).cues) CUES (omega (arith, less, most, no_more show n above here)))
 room_for show n (Some new) above old valid is number here =
     rw (cue_with_above show (with_cue show new) n above here, exchanged_here (λ (x : Cue). x.number) n (Some new) show.cues number) refl
 
