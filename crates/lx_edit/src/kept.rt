@@ -192,7 +192,7 @@ fn differs(
     if above.decides_near(c, near) {
         return false;
     }
-    match (decided(old, c), decided_by(new, c)) {
+    match (decided_by(Some(old), c), decided_by(new, c)) {
         (None, None) => false,
         (Some(was), Some(is)) => was != is,
         (Some(was), None) => was != show.tracked(below(n), c),
@@ -200,23 +200,12 @@ fn differs(
     }
 }
 
-/// The level that the cue decides for the channel, if it does.
-fn decided(cue: &Cue, c: Chan) -> Option<Level>
-    ensures { result ≡ decided cue.now c }
-{
-    if cue.decides(c) {
-        Some(cue.level_of(c))
-    } else {
-        None
-    }
-}
-
-/// The same of a cue that may be absent.
+/// The level that the cue, which may be absent, decides for the channel, if it does.
 fn decided_by(cue: Option<&Cue>, c: Chan) -> Option<Level>
     ensures { result ≡ decided_by (option_copied cue.entry) c }
 {
     match cue {
-        Some(cue) => decided(cue, c),
-        None => None,
+        Some(cue) if cue.decides(c) => Some(cue.level_of(c)),
+        _ => None,
     }
 }

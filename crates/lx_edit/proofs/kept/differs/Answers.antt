@@ -13,14 +13,14 @@ returns-then-decides_near c =
 pub returns-in-None-None : goal.returns-in-None-None
 returns-in-None-None c = sym (ap not (same_test (tracked c.args.show.now (c.args.n - 1) c.args.c)))
     ∙ differs_as c.args.show.now c.args.n c.args.old.now c.args.above.now (option_copied c.args.new) c.args.c None None c.requires.there
-    c.requires.number c.requires.above (sym c.decides_near.ensures ∙ c.if-decides_near.false) (sym c.decided.ensures ∙ c.in-None-None.is-0)
+    c.requires.number c.requires.above (sym c.decides_near.ensures ∙ c.if-decides_near.false) (sym c.decided_by.ensures ∙ c.in-None-None.is-0)
     (sym c.in-None-None.ensures)
 
 pub returns-in-None-Some : goal.returns-in-None-Some
 returns-in-None-Some c = rw (c.tracked.ensures, c.below.ensures)
     (differs_as c.args.show.now c.args.n c.args.old.now c.args.above.now (option_copied c.args.new) c.args.c None (Some c.in-None-Some.is')
     c.requires.there c.requires.number c.requires.above (sym c.decides_near.ensures ∙ c.if-decides_near.false)
-    (sym c.decided.ensures ∙ c.in-None-Some.is-0) (sym c.in-None-Some.ensures))
+    (sym c.decided_by.ensures ∙ c.in-None-Some.is-0) (sym c.in-None-Some.ensures))
 
 pub returns-in-Some-Some : goal.returns-in-Some-Some
 returns-in-Some-Some c = differs_as c.args.show.now c.args.n c.args.old.now c.args.above.now (option_copied c.args.new) c.args.c
