@@ -10,7 +10,7 @@ pub use Rattle.lx_edit.specs.ChanSet.{has_chan, is_chan}
 pub use Rattle.lx_edit.specs.CueChanges.{AreAmong, CanMend, Grows, is_block, IsPast, KeepsLevels, level_from, move_by, moves_of_cue, Replaced, SameEntry}
 pub use Rattle.lx_edit.specs.CueChanges.{SameLevels}
 pub use Rattle.lx_edit.specs.Found.{Fits, FoundCue, GivenPart, IsWithin}
-pub use Rattle.lx_edit.specs.Kept.{base_moves, decided, decided_by}
+pub use Rattle.lx_edit.specs.Kept.{DecidesOutside, base_moves, decided, decided_by}
 pub use Rattle.lx_edit.specs.PlanMeaning.{CanExchange, CanMove, CanPlace, CanReplace, changed_show, covers, dimmer_edited, edits_sub, IsAbove, IsPlan}
 pub use Rattle.lx_edit.specs.PlanMeaning.{KeepsAbove, planned, SameOutside, with_above, with_move, with_move_in, with_moves_in}
 pub use Rattle.lx_edit.specs.Undone.{cue_instead, TakesBack}

@@ -1,9 +1,10 @@
 -- Cue only: what the cue above a changed one tracks, and what it keeps.
 use Rattle.lx_edit.proofs.Imports.{◌≡◌, ℕ, ◌-◌, ◌<◌, ◌≤◌, Bool, true, false, cond, List, [], ◌∷◌, Some, None, refl, ◌∙◌, sym}
 use Rattle.lx_edit.proofs.Imports.{ap, subst, inl, inr, arith, Option, IsTrue, IfSome, find, slice_get, not, is_some, ◌||◌, nat_lt, ◌==◌, unwrap_or}
-use Rattle.lx_edit.proofs.Imports.{cases_Bool, nat_tests, or_left, IsStrictlySorted, entry_at, Cue, Show, Valid, ValidCue, tracked}
+use Rattle.lx_edit.proofs.Imports.{cases_Bool, nat_tests, or_left, IsStrictlySorted, entry_at, has_entry, DecidesOutside, filter, map, range_with_len, Move, Cue, Show, Valid, ValidCue, tracked}
 use Rattle.lx_edit.proofs.Imports.{decides, level_in, cue_above, with_cue, FoundCue, decided, decided_by, Span, changed_show, covers, CanPlace, IsAbove}
 use Rattle.lx_edit.proofs.Imports.{cue_only, kept_above, option_map_or, level_from, lt_from, find_first, find_has, find_passes, first_here, first_other, none_differs, some_same}
+use Rattle.lx_edit.proofs.Lists.{none_past}
 use Rattle.lx_edit.proofs.SameLists.{sorted_exchanged}
 use Rattle.lx_edit.proofs.Walks.{through, walked, above_exchanged, tracked_changed, up_to_first}
 
@@ -18,6 +19,16 @@ found_entry {A} key p x (y ∷ ys) sorted is = elim (cases_Bool (p y)) [
       let more : key y < key x =
       subst (λ (o : Option A). IfSome o (λ z. key y < key z)) rest (find_has (λ z. key y < key z) p ys sorted.0) in
       first_other key (key x) y ys (λ same. omega (arith, more, same)) ∙ found_entry key p x ys sorted.1 rest
+]
+
+-- and in any there is one of its number
+found_there : {A : Type 0} (key : A → ℕ) (p : A → Bool) (x : A) (xs : List A) → find p xs ≡ Some x → IsTrue (has_entry key (key x) xs)
+found_there key p x [] is = absurd (none_differs x is)
+found_there key p x (y ∷ ys) is = elim (cases_Bool (p y)) [
+  | inl here ↦ subst (λ z. IsTrue (has_entry key (key z) (y ∷ ys))) (some_same y x (rw here at is))
+      (ap is_some (first_here key (key y) y ys refl))
+  | inr other ↦ elim (key y == key x) as (λ b. IsTrue (is_some (cond b (Some y) (entry_at key (key x) ys))))
+      [ true ↦ refl | false ↦ found_there key p x ys (rw other at is) ]
 ]
 
 -- the cue above the changed one is the same
@@ -110,20 +121,34 @@ unchanged show n old above new c here number is same =
     ∙ ap (λ (o : Option ℕ). cond (decides above c) false (not (unwrap_or (decided old c) base == unwrap_or o base))) same
     ∙ never (decides above c) (unwrap_or (decided old c) base)
 
+-- where the same is decided outside a range, channels that aren't in it get no moves
+pub none_kept : (show : Show) (n : ℕ) (old above : Cue) (new : Option Cue) (within : Span) (k m : ℕ) → FoundCue show n old
+    → IfSome new (λ cue. cue.number ≡ n) → cue_above show n ≡ Some above → DecidesOutside within show.channels old new → k ≤ m
+    → m ≤ show.channels → ((x : ℕ) → k < x → x ≤ m → covers within x ≡ false)
+    → map {B = Move} (λ c. record { chan = c; part = 1; level = tracked show above.number c })
+    (filter (λ c. not (tracked show above.number c == tracked (changed_show show n new) above.number c)) (range_with_len 1 k))
+    ≡ map {B = Move} (λ c. record { chan = c; part = 1; level = tracked show above.number c })
+    (filter (λ c. not (tracked show above.number c == tracked (changed_show show n new) above.number c)) (range_with_len 1 m))
+none_kept show n old above new within k m here number is outside le most out =
+    let at : ℕ → Move = λ c. record { chan = c; part = 1; level = tracked show above.number c } in
+    sym (ap (λ (xs : List ℕ). map at xs)
+    (none_past (λ c. not (tracked show above.number c == tracked (changed_show show n new) above.number c)) 1 k (m - k) m (omega (arith, le))
+    (λ x low high. unchanged show n old above new x here number is
+    (outside x (record { least = omega (arith, low); most = omega (arith, high, most) }) (out x (omega (arith, low)) (omega (arith, high)))))))
+
 -- the cue above may be placed again, with other moves
-pub above_fits : (show : Show) (n : ℕ) (new : Option Cue) (above kept : Cue) → IsStrictlySorted (λ x. x.number) show.cues
-    → IfSome new (λ cue. cue.number ≡ n) → cue_above show n ≡ Some above → kept.number ≡ above.number → ValidCue show.channels kept
-    → CanPlace (changed_show show n new) kept
-above_fits show n new above kept sorted number is same valid = record {
+pub above_fits : (show : Show) (n : ℕ) (new : Option Cue) (above kept : Cue) → IfSome new (λ cue. cue.number ≡ n)
+    → cue_above show n ≡ Some above → kept.number ≡ above.number → ValidCue show.channels kept → CanPlace (changed_show show n new) kept
+above_fits show n new above kept number is same valid = record {
   valid = valid;
-  room = rw same (rw (above_there show n new above sorted number is) refl);
+  room = rw same (or_left _ _ (found_there (λ (x : Cue). x.number) (λ x. nat_lt n x.number) above (changed_show show n new).cues
+      (cue_above-changed show n new number ∙ is)));
 }
 
 -- a cue of the number of the cue above is one above
-pub above_is : (show : Show) (n : ℕ) (above kept : Cue) → IsStrictlySorted (λ x. x.number) show.cues → kept.number ≡ above.number
-    → cue_above show n ≡ Some above → IsAbove show n kept
-above_is show n above kept sorted same is = record {
-  there = rw same (ap is_some (found_entry (λ (x : Cue). x.number) (λ x. nat_lt n x.number) above show.cues sorted is));
+pub above_is : (show : Show) (n : ℕ) (above kept : Cue) → kept.number ≡ above.number → cue_above show n ≡ Some above → IsAbove show n kept
+above_is show n above kept same is = record {
+  there = rw same (found_there (λ (x : Cue). x.number) (λ x. nat_lt n x.number) above show.cues is);
   higher = omega (arith, same, above_higher show n above is);
 }
 

@@ -2,7 +2,7 @@
 use Rattle.lx_edit.proofs.Imports.{◌≡◌, ℕ, zero, suc, ◌+◌, ◌<◌, ◌≤◌, Bool, true, false, cond, List, [], ◌∷◌, ◌++◌, refl, inl, inr}
 use Rattle.lx_edit.proofs.Imports.{◌∙◌, sym, ap, map, arith, filter, find, ◌&&◌, AllByRecursion, range_with_len, filter-append, Option, Some, None}
 use Rattle.lx_edit.proofs.Imports.{map-range_with_len_more, map-append, cases_Bool, IfSome, IsTrue, is_some, false≢true, and_known, each, passes}
-use Rattle.lx_edit.proofs.Imports.{filter_all, filter_none}
+use Rattle.lx_edit.proofs.Imports.{filter_all, filter_none, Result, Ok, Err, IfOk, entry_at, found_number}
 
 -- what holds of whatever is found, holds if something is found
 pub if_found : {A : Type 0} {P : A → Type 0} (o : Option A) → ((x : A) → o ≡ Some x → P x) → IfSome o P
@@ -13,6 +13,12 @@ if_found (Some x) holds = holds x refl
 pub with_some : {A P : Type 0} (o : Option A) → IsTrue (is_some o) → ((x : A) → o ≡ Some x → P) → P
 with_some None some f = absurd (false≢true some)
 with_some (Some x) some f = f x refl
+
+-- a copy has the number of what was found
+pub numbered : {A E : Type 0} (key : A → ℕ) (r : Result A E) (old : A) (n : ℕ) (xs : List A) → IfOk r (λ x. x ≡ old)
+    → Some old ≡ entry_at key n xs → IfOk r (λ x. key x ≡ n)
+numbered key (Ok x) old n xs same found = ap key same ∙ sym (found_number key n xs old (sym found))
+numbered key (Err fault) old n xs same found = tt
 
 -- the numbers of a range are below its end
 pub range_below : (a n top : ℕ) → a + n ≤ top → AllByRecursion (λ k. k < top) (range_with_len a n)

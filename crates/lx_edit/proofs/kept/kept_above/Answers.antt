@@ -36,13 +36,13 @@ returns-clause-above g c =
 
 pub returns-clause-valid : goal.returns-clause-valid
 returns-clause-valid g c =
-    above_fits c.args.show.now c.args.n (option_copied c.args.new) c.in-Some.above.now _ c.requires.there.valid_show.cues_sorted
+    above_fits c.args.show.now c.args.n (option_copied c.args.new) c.in-Some.above.now _
     c.requires.number (sym c.in-Some.ensures.above) (ap (λ (cue : Cue). cue.number) c.in_ok-with_moves.ensures.cue)
     (rw c.channels.ensures.channels at c.in_ok-with_moves.ensures.valid)
 
 pub returns-clause-higher : goal.returns-clause-higher
 returns-clause-higher g c =
-    above_is c.args.show.now c.args.n c.in-Some.above.now c.in_ok-with_moves.field-0 c.requires.there.valid_show.cues_sorted
+    above_is c.args.show.now c.args.n c.in-Some.above.now c.in_ok-with_moves.field-0
     (ap (λ (cue : Cue). cue.number) c.in_ok-with_moves.ensures.cue) (sym c.in-Some.ensures.above)
 
 pub returns-clause-keeps : goal.returns-clause-keeps
