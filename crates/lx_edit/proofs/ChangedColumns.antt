@@ -1,8 +1,8 @@
 -- Channels that see no difference where a cue is changed, added or taken out.
 use Rattle.lx_edit.proofs.Imports.{◌≡◌, ℕ, ◌-◌, ◌<◌, ◌≤◌, Bool, true, false, cond, List, [], ◌∷◌, ◌⊎◌, ◌++◌, ◌==◌, map, Some, None, refl}
 use Rattle.lx_edit.proofs.Imports.{◌∙◌, sym, ap, subst, inl, inr, arith, Option, option_map, find, IfSome, IsTrue, is_some, ◌||◌, nat_le, reverse}
-use Rattle.lx_edit.proofs.Imports.{map-append, cases_Bool, option_map_or, IsSomeAnd, cases_eq, cases_lt, CHANNELS, Move, IsStrictlySorted, entry_at}
-use Rattle.lx_edit.proofs.Imports.{placed, entries_above, entries_below, Cue, Show, Valid, ValidCue, InRange, tracked, cue_of, move_of, level_in, decides}
+use Rattle.lx_edit.proofs.Imports.{map-append, cases_Bool, option_map_or, IsSomeAnd, cases_eq, cases_lt, CHANNELS, Move}
+use Rattle.lx_edit.proofs.Imports.{entries_above, entries_below, Cue, Show, Valid, ValidCue, InRange, tracked, cue_of, move_of, level_in, decides}
 use Rattle.lx_edit.proofs.Imports.{with_cue, changed_show, entries_up_to, ChanSet, has_chan, move_by, is_block, SameEntry, SameLevels, Grows, KeepsLevels}
 use Rattle.lx_edit.proofs.Imports.{IsPast, KeepsAbove, le_true, all_reverse, each, eq_other, find_has, find_none, found_number, has_placed, split_there}
 use Rattle.lx_edit.proofs.Lists.{with_some}

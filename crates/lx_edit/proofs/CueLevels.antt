@@ -1,6 +1,6 @@
 -- Cues with moves placed and taken out.
 use Rattle.lx_edit.proofs.Imports.{◌≡◌, ℕ, zero, suc, ◌+◌, ◌-◌, ◌<◌, ◌≤◌, Bool, true, false, cond, List, [], ◌∷◌, ◌++◌}
-use Rattle.lx_edit.proofs.Imports.{Some, None, refl, ◌∙◌, sym, ap, map, arith, Option, IsTrue, IfSome, filter, ◌==◌, if◌then◌else◌}
+use Rattle.lx_edit.proofs.Imports.{Some, None, refl, map, arith, Option, IsTrue, IfSome, filter, ◌==◌, if◌then◌else◌}
 use Rattle.lx_edit.proofs.Imports.{option_map_or, AllByRecursion, range_with_len, Span, Part, Move, Member, has_entry, CHANNELS, Cue, Show, InRange, IsLevel}
 use Rattle.lx_edit.proofs.Imports.{ValidCue, ValidMove, ValidMember, move_in, all_at, in_proportion, part_for, with_moves, without_moves, moves_for}
 use Rattle.lx_edit.proofs.Imports.{IsWithin, channels_in, with_other_moves, All-all_placed, IsStrictlySorted-all_placed, Fits, base_moves, found_has, kept_by, IsStrictlySorted-filter}

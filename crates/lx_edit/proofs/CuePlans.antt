@@ -1,8 +1,8 @@
 -- Plans that place one cue in the place of the one of its number.
-use Rattle.lx_edit.proofs.Imports.{◌≡◌, ℕ, ◌≤◌, Bool, true, false, cond, List, [], ◌∷◌, length, Some, None, Ok, refl, ◌∙◌, sym, subst}
-use Rattle.lx_edit.proofs.Imports.{map, arith, Option, IsTrue, is_some, ◌||◌, nat_lt, ◌==◌, not, AllByRecursion, false≢true, nat_tests, CUES, PARTS}
+use Rattle.lx_edit.proofs.Imports.{◌≡◌, ℕ, ◌≤◌, Bool, true, false, cond, List, [], ◌∷◌, Some, None, Ok, refl, ◌∙◌, subst}
+use Rattle.lx_edit.proofs.Imports.{map, arith, IsTrue, ◌==◌, AllByRecursion, false≢true, nat_tests, PARTS}
 use Rattle.lx_edit.proofs.Imports.{Part, Move, entry_at, has_entry, taken_out, Cue, Show, ValidCue, ValidPart, ValidMove, IsTime, edited, with_cue, with_time}
-use Rattle.lx_edit.proofs.Imports.{new_part, without_part, out_of_part, FoundCue, CanPlace, IsPlan, dimmer_edited, edits_sub, find_in_filter, kept_by}
+use Rattle.lx_edit.proofs.Imports.{new_part, without_part, out_of_part, FoundCue, CanPlace, IsPlan, dimmer_edited, edits_sub, kept_by}
 use Rattle.lx_edit.proofs.Imports.{IsStrictlySorted-filter, IsStrictlySorted-map, found_valid}
 use Rattle.lx_spec.specs.declared.Edit.{Edit}
 use Rattle.lx_edit.specs.declared.plans.Plan.TheVariants as plans

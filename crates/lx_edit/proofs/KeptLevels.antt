@@ -1,8 +1,8 @@
 -- Cue only: what the cue above a changed one tracks, and what it keeps.
 use Rattle.lx_edit.proofs.Imports.{◌≡◌, ℕ, ◌-◌, ◌<◌, ◌≤◌, Bool, true, false, cond, List, [], ◌∷◌, Some, None, refl, ◌∙◌, sym}
-use Rattle.lx_edit.proofs.Imports.{ap, subst, inl, inr, arith, Option, IsTrue, IfSome, find, slice_get, not, is_some, ◌||◌, nat_lt, ◌==◌, unwrap_or}
-use Rattle.lx_edit.proofs.Imports.{cases_Bool, nat_tests, or_left, IsStrictlySorted, entry_at, has_entry, DecidesOutside, filter, map, range_with_len, Move, Cue, Show, Valid, ValidCue, tracked}
-use Rattle.lx_edit.proofs.Imports.{decides, level_in, cue_above, with_cue, FoundCue, decided, decided_by, Span, changed_show, covers, CanPlace, IsAbove}
+use Rattle.lx_edit.proofs.Imports.{ap, subst, inl, inr, arith, Option, IsTrue, IfSome, find, slice_get, not, is_some, nat_lt, ◌==◌, unwrap_or}
+use Rattle.lx_edit.proofs.Imports.{cases_Bool, nat_tests, or_left, IsStrictlySorted, entry_at, has_entry, DecidesOutside, filter, map, range_with_len, Move, Cue, Show, ValidCue, tracked}
+use Rattle.lx_edit.proofs.Imports.{decides, level_in, cue_above, FoundCue, decided, decided_by, Span, changed_show, covers, CanPlace, IsAbove}
 use Rattle.lx_edit.proofs.Imports.{cue_only, kept_above, option_map_or, level_from, lt_from, find_first, find_has, find_passes, first_here, first_other, none_differs, some_same}
 use Rattle.lx_edit.proofs.Lists.{none_past}
 use Rattle.lx_edit.proofs.SameLists.{sorted_exchanged}

@@ -1,9 +1,9 @@
 -- Cue only: from the cue above the edited one on, each channel keeps its level.
-use Rattle.lx_edit.proofs.Imports.{◌≡◌, ℕ, ◌-◌, ◌<◌, ◌≤◌, true, List, [], ◌∷◌, ◌++◌, Some, None, refl, ◌∙◌, sym, ap, subst, arith, Option}
-use Rattle.lx_edit.proofs.Imports.{IfSome, IsTrue, is_some, option_to_list, AllByRecursion, IsStrictlySorted, entries_below, entries_above, Cue, Show}
-use Rattle.lx_edit.proofs.Imports.{InRange, tracked, cue_of, cue_above, cue_only, with_cue, entries_up_to, FoundCue, changed_show, IsAbove, KeepsAbove}
+use Rattle.lx_edit.proofs.Imports.{◌≡◌, ℕ, ◌<◌, ◌≤◌, true, [], ◌∷◌, Some, None, refl, ◌∙◌, sym, ap, subst, arith, Option}
+use Rattle.lx_edit.proofs.Imports.{IfSome, is_some, option_to_list, AllByRecursion, IsStrictlySorted, entries_below, entries_above, Cue, Show}
+use Rattle.lx_edit.proofs.Imports.{tracked, cue_above, cue_only, with_cue, entries_up_to, FoundCue, changed_show, IsAbove, KeepsAbove}
 use Rattle.lx_edit.proofs.Imports.{IsStrictlySorted-filter, all_above, all_below}
-use Rattle.lx_edit.proofs.KeptLevels.{above_higher, above_is, cue_least}
+use Rattle.lx_edit.proofs.KeptLevels.{above_is, cue_least}
 use Rattle.lx_edit.proofs.SameLists.{exchanged_parts, sorted_exchanged}
 use Rattle.lx_edit.proofs.Walks.{walked, later, above_exchanged, tracked_on}
 use Rattle.lx_spec.proofs.CueOnly.{IsAround, kept_alone}

@@ -1,7 +1,7 @@
 -- Small facts on lists, tests and ranges of numbers.
-use Rattle.lx_edit.proofs.Imports.{◌≡◌, ℕ, zero, suc, ◌+◌, ◌<◌, ◌≤◌, Bool, true, false, cond, List, [], ◌∷◌, ◌++◌, refl, inl, inr}
+use Rattle.lx_edit.proofs.Imports.{◌≡◌, ℕ, zero, suc, ◌+◌, ◌<◌, ◌≤◌, Bool, true, false, cond, List, [], ◌∷◌, ◌++◌, refl}
 use Rattle.lx_edit.proofs.Imports.{◌∙◌, sym, ap, map, arith, filter, find, ◌&&◌, AllByRecursion, range_with_len, filter-append, Option, Some, None}
-use Rattle.lx_edit.proofs.Imports.{map-range_with_len_more, map-append, cases_Bool, IfSome, IsTrue, is_some, false≢true, and_known, each, passes}
+use Rattle.lx_edit.proofs.Imports.{map-range_with_len_more, map-append, IfSome, IsTrue, is_some, false≢true, and_known, each, passes}
 use Rattle.lx_edit.proofs.Imports.{filter_all, filter_none, Result, Ok, Err, IfOk, entry_at, found_number}
 
 -- what holds of whatever is found, holds if something is found

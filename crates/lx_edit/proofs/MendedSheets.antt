@@ -1,5 +1,5 @@
 -- What is left to be mended of a sheet: its columns, and the marks of the cues that were placed.
-use Rattle.lx_edit.proofs.Imports.{◌≡◌, ◌≢◌, ℕ, ◌<◌, ◌≤◌, Bool, true, false, Some, None, refl, ◌∙◌, sym, ap, subst, inl, inr}
+use Rattle.lx_edit.proofs.Imports.{◌≡◌, ◌≢◌, ℕ, ◌≤◌, true, false, Some, None, refl, ◌∙◌, sym, ap, subst, inl, inr}
 use Rattle.lx_edit.proofs.Imports.{Option, IfSome, IsTrue, is_some, ◌||◌, cases_eq, Move, Cue, Show, cue_of, decides, move_in, tracked, with_cue}
 use Rattle.lx_edit.proofs.Imports.{entry_at-placed_here, entry_at-placed_other, Sheet, is_marked, level_of, numbers_of, IsMarked, IsMarkedAt, cue_numbers}
 use Rattle.lx_edit.proofs.Imports.{ChanSet, CanMend, IsPast, KeepsLevels, Replaced, with_move, with_move_in, IsSomeAnd}

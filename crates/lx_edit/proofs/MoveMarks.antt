@@ -4,7 +4,7 @@ use Rattle.lx_edit.proofs.Imports.{◌++◌, length, map, take, get_or, Some, No
 use Rattle.lx_edit.proofs.Imports.{◌||◌, ◌&&◌, ◌==◌, not, nat_le, nat_lt, option_map_or, option_or, AllByRecursion, range_with_len, nat_tests, Span}
 use Rattle.lx_edit.proofs.Imports.{CHANNELS, Part, false≢true, or_left, take_more, take-append-drop, Move, all_placed, entry_at, entries_above, placed, Cue}
 use Rattle.lx_edit.proofs.Imports.{ValidCue, ValidMove, all_at, channels_in, part_for, with_levels, without_moves, entries_up_to, eq_from, eq_other, eq_true}
-use Rattle.lx_edit.proofs.Imports.{le_true, lt_true, all_append, each, find_in_filter, find_none, entry_at-placed_other, found_number, found_valid, ChanSet}
+use Rattle.lx_edit.proofs.Imports.{all_append, each, find_in_filter, find_none, entry_at-placed_other, found_number, found_valid, ChanSet}
 use Rattle.lx_edit.proofs.Lists.{if_found}
 use Rattle.lx_edit.proofs.Imports.{cases_Bool, inl, inr, has_chan, AreAmong, Grows, move_by, moves_of_cue, decided, SameOutside, covers}
 

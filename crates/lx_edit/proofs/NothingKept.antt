@@ -1,7 +1,7 @@
 -- Cue only, where the cue above decides the one channel that a move changes: nothing has to be kept there.
 use Rattle.lx_edit.proofs.Imports.{◌≡◌, ℕ, ◌-◌, Bool, true, false, cond, List, [], ◌∷◌, Some, None, refl, ◌∙◌, sym, ap, subst, inl, inr}
 use Rattle.lx_edit.proofs.Imports.{map, Option, IfSome, filter, is_some, not, ◌==◌, ◌||◌, option_map_or, cases_eq, Move, IsStrictlySorted, Cue, Show}
-use Rattle.lx_edit.proofs.Imports.{Valid, cue_above, decides, tracked, with_cue, with_moves, cue_only, channels_of, entry_at-placed_other}
+use Rattle.lx_edit.proofs.Imports.{cue_above, decides, tracked, with_cue, with_moves, cue_only, channels_of, entry_at-placed_other}
 use Rattle.lx_edit.proofs.Imports.{placed_same, FoundCue, decided, unwrap_or, changed_show, with_move}
 use Rattle.lx_edit.proofs.KeptLevels.{above_there, cue_only_is, level_differs, unchanged}
 use Rattle.lx_edit.proofs.SameLists.{sorted_exchanged}

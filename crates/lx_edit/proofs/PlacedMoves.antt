@@ -1,6 +1,6 @@
 -- A cue with one of its moves replaced, and replaced back.
 use Rattle.lx_edit.proofs.Imports.{◌≡◌, ℕ, ◌+◌, ◌-◌, ◌≤◌, false, List, [], ◌∷◌, Some, None, Ok, refl, ◌∙◌, sym, ap, subst}
-use Rattle.lx_edit.proofs.Imports.{cond, arith, inl, inr, Bool, true, Option, IsTrue, IfSome, is_some, ◌||◌, IsSomeAnd, option_map_or, AllByRecursion}
+use Rattle.lx_edit.proofs.Imports.{cond, arith, inl, inr, Bool, true, Option, IsTrue, IfSome, is_some, ◌||◌, IsSomeAnd, option_map_or}
 use Rattle.lx_edit.proofs.Imports.{range_with_len, cases_eq, Span, CHANNELS, Set, Move, Part, entry_at, has_entry, placed, Cue, Show, Valid, ValidCue}
 use Rattle.lx_edit.proofs.Imports.{ValidMove, InRange, IsLevel, cue_of, cue_above, decides, move_in, tracked, asserts, with_cue, with_levels, all_at}
 use Rattle.lx_edit.proofs.Imports.{channels_in, cue_only, part_for, edited, le_true, entry_at-placed_here, entry_at-placed_other, found_number, found_valid}

@@ -1,6 +1,6 @@
 -- An entry exchanged for another, or taken out: what is there then, and exchanged back.
 use Rattle.lx_edit.proofs.Imports.{◌≡◌, ℕ, List, Some, None, refl, ◌∙◌, sym, ap, subst, inl, inr, Option, IfSome, ◌==◌, not, ◌++◌, ◌∷◌}
-use Rattle.lx_edit.proofs.Imports.{true, cases_eq, nat_tests, arith, option_to_list, not-true, IsStrictlySorted, entry_at, placed, taken_out, entries_below}
+use Rattle.lx_edit.proofs.Imports.{true, cases_eq, nat_tests, arith, option_to_list, not-true, IsStrictlySorted, entry_at, placed, entries_below}
 use Rattle.lx_edit.proofs.Imports.{entries_above, below_and_above, each, passes, find_none, find_in_filter, IsStrictlySorted-filter, IsStrictlySorted-placed}
 use Rattle.lx_edit.proofs.Imports.{entry_at-placed_here, entry_at-placed_other, found_number, exchanged_at, same_lists}
 use Rattle.lx_edit.proofs.Lists.{if_found}

@@ -1,7 +1,7 @@
 -- What takes a plan back makes the show before of the one after.
 use Rattle.lx_edit.proofs.Imports.{◌≡◌, ℕ, ◌<◌, ◌≤◌, Bool, true, false, List, length, Some, None, refl, ◌∙◌, sym, ap, subst, arith}
-use Rattle.lx_edit.proofs.Imports.{Option, IfSome, IsTrue, is_some, ◌||◌, nat_lt, false≢true, length-append, CUES, IsStrictlySorted, entry_at, has_entry}
-use Rattle.lx_edit.proofs.Imports.{placed, taken_out, entries_below, entries_above, Cue, Group, Sub, Show, Valid, ValidCue, ValidGroup, ValidSub, ValidPatchRow}
+use Rattle.lx_edit.proofs.Imports.{Option, IfSome, IsTrue, is_some, ◌||◌, nat_lt, false≢true, length-append, CUES, entry_at, has_entry}
+use Rattle.lx_edit.proofs.Imports.{taken_out, entries_below, entries_above, Cue, Group, Sub, Show, Valid, ValidCue, ValidGroup, ValidSub, ValidPatchRow}
 use Rattle.lx_edit.proofs.Imports.{cue_of, tracked, with_cue, lt_true, below_and_above, entry_at-placed_here, entry_at-placed_other, find_has, found_number}
 use Rattle.lx_edit.proofs.Imports.{found_valid, has_placed, length-placed_there, one_between, exchanged_at, CanExchange, CanPlace, IsAbove, KeepsAbove}
 use Rattle.lx_edit.proofs.Imports.{changed_show, with_above, TakesBack, cue_instead}

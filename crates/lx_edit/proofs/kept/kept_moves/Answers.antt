@@ -1,4 +1,4 @@
-use Rattle.lx_edit.proofs.Imports.{◌+◌, ◌-◌, ◌≤◌, ◌∙◌, refl, arith, not, ◌==◌, option_copied, tracked, changed_show}
+use Rattle.lx_edit.proofs.Imports.{◌-◌, ◌≤◌, ◌∙◌, refl, arith, not, ◌==◌, option_copied, tracked, changed_show}
 use Rattle.lx_edit.proofs.CueLevels.{chosen_next}
 use Rattle.lx_edit.proofs.KeptLevels.{none_kept, outside_high, outside_low}
 use Rattle.lx_edit.proofs.kept.kept_moves.Goals as goal

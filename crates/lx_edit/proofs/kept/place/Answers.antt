@@ -1,5 +1,5 @@
-use Rattle.lx_edit.proofs.Imports.{◌≡◌, ◌∙◌, ap, sym, subst, refl, List, Option, IsSomeAnd, AllByRecursion, Move, Part, Cue, ValidMove, with_cue}
-use Rattle.lx_edit.proofs.Imports.{SameOutside, with_above}
+use Rattle.lx_edit.proofs.Imports.{◌≡◌, ◌∙◌, ap, sym, subst, refl, List, Option, AllByRecursion, Move, Part, Cue, ValidMove, with_cue}
+use Rattle.lx_edit.proofs.Imports.{with_above}
 use Rattle.lx_edit.proofs.MoveMarks.{decided_alike}
 use Rattle.lx_edit.proofs.PlacedMoves.{changed_is}
 use Rattle.lx_edit.proofs.kept.place.Goals as goal

@@ -1,4 +1,4 @@
-use Rattle.lx_edit.proofs.Imports.{◌∙◌, Move, placed, CanExchange}
+use Rattle.lx_edit.proofs.Imports.{Move, placed, CanExchange}
 use Rattle.lx_edit.proofs.AssertedCues.{asserts_above, asserts_changed}
 use Rattle.lx_edit.proofs.PlacedMoves.{asserts_moved}
 use Rattle.lx_edit.proofs.marks.changes_asserts.Goals as goal

@@ -1,5 +1,4 @@
-use Rattle.lx_edit.proofs.Imports.{◌≡◌, ◌∙◌, ap, sym, subst, false, List, ℕ, Some, rules, Option, IsSomeAnd, Move, entry_at, Cue, cue_of, move_in}
-use Rattle.lx_edit.proofs.Imports.{has_chan, SameOutside}
+use Rattle.lx_edit.proofs.Imports.{◌≡◌, ◌∙◌, ap, List, Some, rules, Move, entry_at, Cue, cue_of}
 use Rattle.lx_edit.proofs.MoveMarks.{same_within}
 use Rattle.lx_edit.proofs.marks.mark_within.Goals as goal
 
