@@ -87,27 +87,23 @@ bit_kept words c x least_c least_x within differ = elim (cases_eq ((x - 1) / 64)
 differs_from : (x c : ℕ) → is_chan x ≡ false → is_chan c ≡ true → x ≡ c → ⊥
 differs_from x c none here is = false≢true (sym none ∙ ap is_chan is ∙ here)
 
-with_step : (words : List ℕ) (c x : ℕ) (b : Bool) → is_chan x ≡ b → is_chan c ≡ true → (c - 1) / 64 < length words
-    → has_chan (record { words = with_chan words c }) x ≡ (x == c || has_chan (record { words = words }) x)
-with_step words c x false none here within =
-    has_chan-none (record { words = with_chan words c }) x none
-    ∙ sym (ap (λ b. b || has_chan (record { words = words }) x) (eq_other x c (differs_from x c none here))
-    ∙ has_chan-none (record { words = words }) x none)
-with_step words c x true is here within = elim (cases_eq x c) [
-  | inl at ↦
-      let P : ℕ → Type 0 = λ k. has_chan (record { words = with_chan words c }) k ≡ (k == c || has_chan (record { words = words }) k) in
-      subst P (sym at) (has_chan-at (record { words = with_chan words c }) c here ∙ ap (λ b. b == 1) (set_here words c within)
-      ∙ sym (ap (λ b. b || has_chan (record { words = words }) c) (eq_true c c refl)))
-  | inr differ ↦
-      has_chan-at (record { words = with_chan words c }) x is
-      ∙ ap (λ b. b == 1) (bit_kept words c x (least_of c here) (least_of x is) within differ)
-      ∙ sym (ap (λ b. b || has_chan (record { words = words }) x) (eq_other x c differ) ∙ has_chan-at (record { words = words }) x is)
-]
-
 -- a set with one channel more
 pub has_chan-with : (words : List ℕ) (c x : ℕ) → is_chan c ≡ true → (c - 1) / 64 < length words
     → has_chan (record { words = with_chan words c }) x ≡ (x == c || has_chan (record { words = words }) x)
-has_chan-with words c x here within = with_step words c x (is_chan x) refl here within
+has_chan-with words c x here within = elim (cases_Bool (is_chan x)) [
+  | inl is ↦ elim (cases_eq x c) [
+    | inl at ↦ subst (λ k. has_chan (record { words = with_chan words c }) k ≡ (k == c || has_chan (record { words = words }) k)) (sym at)
+        (has_chan-at (record { words = with_chan words c }) c here ∙ ap (λ b. b == 1) (set_here words c within)
+        ∙ sym (ap (λ b. b || has_chan (record { words = words }) c) (eq_true c c refl)))
+    | inr differ ↦
+        has_chan-at (record { words = with_chan words c }) x is
+        ∙ ap (λ b. b == 1) (bit_kept words c x (least_of c here) (least_of x is) within differ)
+        ∙ sym (ap (λ b. b || has_chan (record { words = words }) x) (eq_other x c differ) ∙ has_chan-at (record { words = words }) x is)
+  ]
+  | inr none ↦ has_chan-none (record { words = with_chan words c }) x none
+      ∙ sym (ap (λ b. b || has_chan (record { words = words }) x) (eq_other x c (differs_from x c none here))
+      ∙ has_chan-none (record { words = words }) x none)
+]
 
 -- the word of a place, shifted down to it
 abbrev pub rest_of : ChanSet → ℕ → ℕ
