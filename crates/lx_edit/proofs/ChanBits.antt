@@ -3,7 +3,8 @@ use Rattle.lx_edit.proofs.Imports.{◌≡◌, ◌≢◌, ℕ, zero, suc, ◌+◌
 use Rattle.lx_edit.proofs.Imports.{false, List, length, get_or, set, replicate, refl, ◌∙◌, sym, ap, subst, inl, inr, arith, w64, ◌==◌, ◌||◌}
 use Rattle.lx_edit.proofs.Imports.{◌&&◌, bit_or, slice_index, bit_at, cases_eq, false≢true, CHANNELS, nat_tests, get_or-replicate, get_or-set_same}
 use Rattle.lx_edit.proofs.Imports.{get_or-set_other, bit_at-zero, bit_at_ones, bit_at_set_same, bit_at_set_other, ChanSet, is_chan, eq_other, eq_true}
-use Rattle.lx_edit.proofs.Imports.{bit_at_above, bit_at-trailing_zeros, cases_lt, shr-shr, shr_le, trailing_zeros}
+use Rattle.lx_edit.proofs.Imports.{bit_at_above, bit_at-trailing_zeros, cases_Bool, cases_lt, shr-shr, shr_le, trailing_zeros}
+use Rattle.std.proofs.Math.Bool.{and-false}
 use Rattle.std.proofs.Math.Nat.{div-add-mod}
 use Rattle.lx_edit.specs.ChanSet.{has_chan}
 
@@ -30,14 +31,10 @@ zeros zero i = refl
 zeros (suc n) zero = refl
 zeros (suc n) (suc i) = zeros n i
 
-both_false : (a : Bool) → (a && false) ≡ false
-both_false true = refl
-both_false false = refl
-
 pub has_chan-empty : (n x : ℕ) → has_chan (record { words = replicate n 0 }) x ≡ false
 unfolding has_chan
 has_chan-empty n x = ap (λ w. is_chan x && (bit_at w ((x - 1) % 64) == 1)) (zeros n ((x - 1) / 64))
-    ∙ ap (λ b. is_chan x && (b == 1)) (bit_at-zero ((x - 1) % 64)) ∙ both_false (is_chan x)
+    ∙ ap (λ b. is_chan x && (b == 1)) (bit_at-zero ((x - 1) % 64)) ∙ and-false (is_chan x)
 
 in_word : (k : ℕ) → k % 64 < 64
 in_word k = omega arith
@@ -52,14 +49,12 @@ has_chan-full n x least most room =
     ∙ ap (λ b. b == 1) (bit_at_ones 64 ((x - 1) % 64) (in_word (x - 1)))
 
 -- what isn't in a set that has each channel is in none
-outside : (full other : ChanSet) → ((x : ℕ) → 1 ≤ x → x ≤ CHANNELS → has_chan full x ≡ true) → (c : ℕ) → has_chan full c ≡ false
-    → (b : Bool) → is_chan c ≡ b → has_chan other c ≡ false
-outside full other each c out true is = absurd (false≢true (sym out ∙ each c (least_of c is) (most_of c is)))
-outside full other each c out false is = has_chan-none other c is
-
 pub no_channel : (full other : ChanSet) → ((x : ℕ) → 1 ≤ x → x ≤ CHANNELS → has_chan full x ≡ true) → (c : ℕ) → has_chan full c ≡ false
     → has_chan other c ≡ false
-no_channel full other each c out = outside full other each c out (is_chan c) refl
+no_channel full other each c out = elim (cases_Bool (is_chan c)) [
+  | inl is ↦ absurd (false≢true (sym out ∙ each c (least_of c is) (most_of c is)))
+  | inr is ↦ has_chan-none other c is
+]
 
 -- two channels of one word have two bits
 two_bits : (x c : ℕ) → 1 ≤ x → 1 ≤ c → (x - 1) / 64 ≡ (c - 1) / 64 → (x ≡ c → ⊥) → (x - 1) % 64 ≢ (c - 1) % 64
@@ -92,27 +87,23 @@ bit_kept words c x least_c least_x within differ = elim (cases_eq ((x - 1) / 64)
 differs_from : (x c : ℕ) → is_chan x ≡ false → is_chan c ≡ true → x ≡ c → ⊥
 differs_from x c none here is = false≢true (sym none ∙ ap is_chan is ∙ here)
 
-with_step : (words : List ℕ) (c x : ℕ) (b : Bool) → is_chan x ≡ b → is_chan c ≡ true → (c - 1) / 64 < length words
-    → has_chan (record { words = with_chan words c }) x ≡ (x == c || has_chan (record { words = words }) x)
-with_step words c x false none here within =
-    has_chan-none (record { words = with_chan words c }) x none
-    ∙ sym (ap (λ b. b || has_chan (record { words = words }) x) (eq_other x c (differs_from x c none here))
-    ∙ has_chan-none (record { words = words }) x none)
-with_step words c x true is here within = elim (cases_eq x c) [
-  | inl at ↦
-      let P : ℕ → Type 0 = λ k. has_chan (record { words = with_chan words c }) k ≡ (k == c || has_chan (record { words = words }) k) in
-      subst P (sym at) (has_chan-at (record { words = with_chan words c }) c here ∙ ap (λ b. b == 1) (set_here words c within)
-      ∙ sym (ap (λ b. b || has_chan (record { words = words }) c) (eq_true c c refl)))
-  | inr differ ↦
-      has_chan-at (record { words = with_chan words c }) x is
-      ∙ ap (λ b. b == 1) (bit_kept words c x (least_of c here) (least_of x is) within differ)
-      ∙ sym (ap (λ b. b || has_chan (record { words = words }) x) (eq_other x c differ) ∙ has_chan-at (record { words = words }) x is)
-]
-
 -- a set with one channel more
 pub has_chan-with : (words : List ℕ) (c x : ℕ) → is_chan c ≡ true → (c - 1) / 64 < length words
     → has_chan (record { words = with_chan words c }) x ≡ (x == c || has_chan (record { words = words }) x)
-has_chan-with words c x here within = with_step words c x (is_chan x) refl here within
+has_chan-with words c x here within = elim (cases_Bool (is_chan x)) [
+  | inl is ↦ elim (cases_eq x c) [
+    | inl at ↦ subst (λ k. has_chan (record { words = with_chan words c }) k ≡ (k == c || has_chan (record { words = words }) k)) (sym at)
+        (has_chan-at (record { words = with_chan words c }) c here ∙ ap (λ b. b == 1) (set_here words c within)
+        ∙ sym (ap (λ b. b || has_chan (record { words = words }) c) (eq_true c c refl)))
+    | inr differ ↦
+        has_chan-at (record { words = with_chan words c }) x is
+        ∙ ap (λ b. b == 1) (bit_kept words c x (least_of c here) (least_of x is) within differ)
+        ∙ sym (ap (λ b. b || has_chan (record { words = words }) x) (eq_other x c differ) ∙ has_chan-at (record { words = words }) x is)
+  ]
+  | inr none ↦ has_chan-none (record { words = with_chan words c }) x none
+      ∙ sym (ap (λ b. b || has_chan (record { words = words }) x) (eq_other x c (differs_from x c none here))
+      ∙ has_chan-none (record { words = words }) x none)
+]
 
 -- the word of a place, shifted down to it
 abbrev pub rest_of : ChanSet → ℕ → ℕ
@@ -130,7 +121,7 @@ in_rest chans place i x within at =
 pub has_chan-clear : (chans : ChanSet) (place x : ℕ) → place < x → x ≤ place / 64 * 64 + 64 → bit_at (rest_of chans place) (x - 1 - place) ≡ 0
     → has_chan chans x ≡ false
 has_chan-clear chans place x from to clear = in_rest chans place (x - 1 - place) x (omega (arith, from, to)) (omega (arith, from))
-    ∙ ap (λ n. is_chan x && (n == 1)) clear ∙ both_false (is_chan x)
+    ∙ ap (λ n. is_chan x && (n == 1)) clear ∙ and-false (is_chan x)
 
 -- the next channel of the word
 pub record IsNext (chans : ChanSet) (place c : ℕ) : Type 0 where

@@ -1,9 +1,9 @@
 -- Cues with moves placed and taken out.
 use Rattle.lx_edit.proofs.Imports.{◌≡◌, ℕ, zero, suc, ◌+◌, ◌-◌, ◌<◌, ◌≤◌, Bool, true, false, cond, List, [], ◌∷◌, ◌++◌}
-use Rattle.lx_edit.proofs.Imports.{Some, None, refl, ◌∙◌, sym, ap, map, arith, Option, IsTrue, IfSome, filter, ◌==◌, if◌then◌else◌}
+use Rattle.lx_edit.proofs.Imports.{Some, None, refl, map, arith, Option, IsTrue, IfSome, filter, ◌==◌, if◌then◌else◌}
 use Rattle.lx_edit.proofs.Imports.{option_map_or, AllByRecursion, range_with_len, Span, Part, Move, Member, has_entry, CHANNELS, Cue, Show, InRange, IsLevel}
 use Rattle.lx_edit.proofs.Imports.{ValidCue, ValidMove, ValidMember, move_in, all_at, in_proportion, part_for, with_moves, without_moves, moves_for}
-use Rattle.lx_edit.proofs.Imports.{with_other_moves, All-all_placed, IsStrictlySorted-all_placed, Fits, base_moves, found_has, kept_by, IsStrictlySorted-filter}
+use Rattle.lx_edit.proofs.Imports.{IsWithin, channels_in, with_other_moves, All-all_placed, IsStrictlySorted-all_placed, Fits, base_moves, found_has, kept_by, IsStrictlySorted-filter}
 use Rattle.lx_edit.proofs.Lists.{chosen_more, range_below}
 
 part_of_move : (channels : ℕ) (parts : List Part) (o : Option Move) → IsTrue (has_entry (λ x. x.number) 1 parts)
@@ -49,20 +49,22 @@ valid_with_moves channels cue moves valid fits all = with_other_moves channels c
     (IsStrictlySorted-all_placed (λ (m : Move). m.chan) moves cue.moves valid.moves_sorted)
 
 -- the channels of a range within the show's
-pub levels_within : (level first n top : ℕ) → first + n ≤ top + 1
+levels_within : (level first n top : ℕ) → first + n ≤ top + 1
     → AllByRecursion (λ m. m.chan ≤ top) (all_at level (range_with_len first n))
 levels_within level first zero top within = tt
 levels_within level first (suc n) top within = (omega arith, levels_within level (first + 1) n top (omega arith))
+
+pub range_within : (level : ℕ) {channels : ℕ} (range : Span) → IsWithin channels range
+    → AllByRecursion (λ m. m.chan ≤ channels) (all_at level (channels_in range))
+range_within level range within =
+    let order = within.order in
+    let most = within.most in
+    levels_within level range.first _ _ (omega (arith, order, most))
 
 pub proportion_within : (level channels : ℕ) (members : List Member) → AllByRecursion (ValidMember channels) members
     → AllByRecursion (λ m. m.chan ≤ channels) (map (in_proportion level) members)
 proportion_within level channels [] all = tt
 proportion_within level channels (m ∷ ms) all = (all.0.chan.most, proportion_within level channels ms all.1)
-
-base_step : (c level : ℕ) (b : Bool) → base_moves c (if b then Some level else None)
-    ≡ cond b (record { chan = c; part = 1; level = level } ∷ []) []
-base_step c level true = refl
-base_step c level false = refl
 
 -- a step through the channels, of which some get a move
 pub chosen_next : (test : ℕ → Bool) (level : ℕ → ℕ) (k c : ℕ) (old new : List Move) (o : Option ℕ) → 1 ≤ k
@@ -72,13 +74,9 @@ pub chosen_next : (test : ℕ → Bool) (level : ℕ → ℕ) (k c : ℕ) (old n
 chosen_next test level k c old new o least was here given is =
     let at : ℕ → Move = λ x. record { chan = x; part = 1; level = level x } in
     let length_is : k + 1 - 1 ≡ k - 1 + 1 = omega (arith, least) in
-    is
-    ∙ ap (λ (xs : List Move). xs ++ base_moves c o) was
-    ∙ ap (λ (x : Option ℕ). map at (filter test (range_with_len 1 (k - 1))) ++ base_moves c x) given
-    ∙ ap (λ (x : ℕ). map at (filter test (range_with_len 1 (k - 1))) ++ base_moves x (if test x then Some (level x) else None)) here
-    ∙ ap (λ (xs : List Move). map at (filter test (range_with_len 1 (k - 1))) ++ xs) (base_step k (level k) (test k))
-    ∙ sym (chosen_more test at 1 (k - 1) k (omega (arith, least)))
-    ∙ ap (λ (n : ℕ). map at (filter test (range_with_len 1 n))) (sym length_is)
+    let before = map at (filter test (range_with_len 1 (k - 1))) in
+    rw (is, was, given, here, length_is, chosen_more test at 1 (k - 1) k (omega (arith, least)))
+    (elim (test k) as (λ b. before ++ base_moves k (if b then Some (level k) else None) ≡ before ++ cond b (at k ∷ []) []) [ true ↦ refl | false ↦ refl ])
 
 chosen_fit_in : (channels : ℕ) (parts : List Part) (test : ℕ → Bool) (level : ℕ → ℕ) (xs : List ℕ)
     → IsTrue (has_entry (λ x. x.number) 1 parts) → AllByRecursion (λ c. c < channels + 1) xs

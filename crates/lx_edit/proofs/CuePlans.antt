@@ -1,23 +1,17 @@
 -- Plans that place one cue in the place of the one of its number.
-use Rattle.lx_edit.proofs.Imports.{◌≡◌, ℕ, ◌≤◌, Bool, true, false, cond, List, [], ◌∷◌, length, Some, None, Ok, refl, ◌∙◌, sym, subst}
-use Rattle.lx_edit.proofs.Imports.{map, arith, Option, IsTrue, is_some, ◌||◌, nat_lt, ◌==◌, not, AllByRecursion, false≢true, nat_tests, CUES, PARTS}
+use Rattle.lx_edit.proofs.Imports.{◌≡◌, ℕ, ◌≤◌, Bool, true, false, cond, List, [], ◌∷◌, Some, None, Ok, refl, ◌∙◌, subst}
+use Rattle.lx_edit.proofs.Imports.{map, arith, IsTrue, ◌==◌, AllByRecursion, false≢true, nat_tests, PARTS}
 use Rattle.lx_edit.proofs.Imports.{Part, Move, entry_at, has_entry, taken_out, Cue, Show, ValidCue, ValidPart, ValidMove, IsTime, edited, with_cue, with_time}
-use Rattle.lx_edit.proofs.Imports.{new_part, without_part, out_of_part, FoundCue, CanPlace, IsPlan, dimmer_edited, edits_sub, find_in_filter, kept_by}
+use Rattle.lx_edit.proofs.Imports.{new_part, without_part, out_of_part, FoundCue, CanPlace, IsPlan, dimmer_edited, edits_sub, kept_by}
 use Rattle.lx_edit.proofs.Imports.{IsStrictlySorted-filter, IsStrictlySorted-map, found_valid}
 use Rattle.lx_spec.specs.declared.Edit.{Edit}
 use Rattle.lx_edit.specs.declared.plans.Plan.TheVariants as plans
+use Rattle.lx_edit.proofs.SameLists.{exchanged_other}
 
 -- a cue in the place of one that is there
 pub replaces : (show : Show) (n : ℕ) (old new : Cue) → FoundCue show n old → new.number ≡ old.number → ValidCue show.channels new
     → CanPlace show new
-replaces show n old new here same valid =
-    let there : IsTrue (has_entry (λ (x : Cue). x.number) n show.cues || nat_lt (length show.cues) CUES) =
-    subst (λ (o : Option Cue). IsTrue (is_some o || nat_lt (length show.cues) CUES)) (sym here.found) refl in
-    record {
-      valid = valid;
-      room = subst (λ k. IsTrue (has_entry (λ (x : Cue). x.number) k show.cues || nat_lt (length show.cues) CUES))
-          (sym (same ∙ here.number)) there;
-    }
+replaces show n old new here same valid = record { valid = valid; room = rw (same ∙ here.number, here.found) refl }
 
 pub places : (show : Show) (edit : Edit) (n : ℕ) (old new : Cue) → FoundCue show n old → new.number ≡ old.number
     → ValidCue show.channels new → edited show edit ≡ Ok (with_cue show new) → None ≡ dimmer_edited edit → false ≡ edits_sub edit
@@ -59,15 +53,10 @@ valid_new_part p least most = record {
   down_delay = omega arith;
 }
 
-other_kept : (a n p : ℕ) → (n ≡ p → ⊥) → (a == n) ≡ true → not (a == p) ≡ true
-other_kept a n p other same = grind (arith, nat_tests)
-
 -- a part other than the one taken out stays
 has_other : (p q : ℕ) (parts : List Part) → (q ≡ p → ⊥) → IsTrue (has_entry (λ x. x.number) q parts)
     → IsTrue (has_entry (λ x. x.number) q (taken_out (λ x. x.number) p parts))
-has_other p q parts other there = subst (λ (o : Option Part). IsTrue (is_some o))
-    (sym (find_in_filter (λ (x : Part). x.number == q) (λ (x : Part). not (x.number == p)) parts (λ x h. other_kept x.number q p other h)))
-    there
+has_other p q parts other there = rw (exchanged_other (λ (x : Part). x.number) p q None parts tt other) there
 
 moved_chan : (p : ℕ) (m : Move) → (out_of_part p m).chan ≡ m.chan
 moved_chan p m = elim (m.part == p) as (λ b. (cond b (record m { part = 1 }) m).chan ≡ m.chan) [ true ↦ refl | false ↦ refl ]

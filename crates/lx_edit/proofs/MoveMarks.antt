@@ -4,8 +4,9 @@ use Rattle.lx_edit.proofs.Imports.{◌++◌, length, map, take, get_or, Some, No
 use Rattle.lx_edit.proofs.Imports.{◌||◌, ◌&&◌, ◌==◌, not, nat_le, nat_lt, option_map_or, option_or, AllByRecursion, range_with_len, nat_tests, Span}
 use Rattle.lx_edit.proofs.Imports.{CHANNELS, Part, false≢true, or_left, take_more, take-append-drop, Move, all_placed, entry_at, entries_above, placed, Cue}
 use Rattle.lx_edit.proofs.Imports.{ValidCue, ValidMove, all_at, channels_in, part_for, with_levels, without_moves, entries_up_to, eq_from, eq_other, eq_true}
-use Rattle.lx_edit.proofs.Imports.{le_true, lt_true, all_append, each, find_in_filter, find_none, entry_at-placed_other, found_number, found_valid, ChanSet}
-use Rattle.lx_edit.proofs.Imports.{has_chan, AreAmong, Grows, move_by, moves_of_cue, decided, SameOutside, covers}
+use Rattle.lx_edit.proofs.Imports.{all_append, each, find_in_filter, find_none, entry_at-placed_other, found_number, found_valid, ChanSet}
+use Rattle.lx_edit.proofs.Lists.{if_found}
+use Rattle.lx_edit.proofs.Imports.{cases_Bool, inl, inr, has_chan, AreAmong, Grows, move_by, moves_of_cue, decided, SameOutside, covers}
 
 not_right : (a b : Bool) → (a || b) ≡ false → b ≡ false
 not_right true b is = absurd (false≢true (sym is))
@@ -37,15 +38,12 @@ among_more before chans moves others k m within is grows here all =
     (all_append (λ x. has_chan chans x.chan ≡ false → entry_at (λ y. y.chan) x.chan others ≡ Some x) (take k moves) (m ∷ [])
     (among_grown before chans (take k moves) others grows all) (here, tt))
 
-among_found : (chans : ChanSet) (moves others : List Move) (c : ℕ) (o : Option Move) → entry_at (λ m. m.chan) c moves ≡ o
-    → has_chan chans c ≡ false → AreAmong chans moves others → IfSome o (λ m. entry_at (λ x. x.chan) c others ≡ Some m)
-among_found chans moves others c None is out all = tt
-among_found chans moves others c (Some m) is out all =
-    let here : c ≡ m.chan = found_number (λ (x : Move). x.chan) c moves m is in
-    let marked : has_chan chans m.chan ≡ false → entry_at (λ (x : Move). x.chan) m.chan others ≡ Some m =
-    found_valid (λ (x : Move). has_chan chans x.chan ≡ false → entry_at (λ (y : Move). y.chan) x.chan others ≡ Some x)
-    (λ (x : Move). x.chan) c moves m all is in
-    subst (λ k. has_chan chans k ≡ false → entry_at (λ (x : Move). x.chan) k others ≡ Some m) (sym here) marked out
+among_found : (chans : ChanSet) (moves others : List Move) (c : ℕ) → has_chan chans c ≡ false → AreAmong chans moves others
+    → IfSome (entry_at (λ m. m.chan) c moves) (λ m. entry_at (λ x. x.chan) c others ≡ Some m)
+among_found chans moves others c out all = if_found (entry_at (λ m. m.chan) c moves) (λ m is.
+    subst (λ k. has_chan chans k ≡ false → entry_at (λ (x : Move). x.chan) k others ≡ Some m) (sym (found_number (λ (x : Move). x.chan) c moves m is))
+    (found_valid (λ (x : Move). has_chan chans x.chan ≡ false → entry_at (λ (y : Move). y.chan) x.chan others ≡ Some x)
+    (λ (x : Move). x.chan) c moves m all is) out)
 
 same_both_ways : (a b : Option Move) → IfSome a (λ m. b ≡ Some m) → IfSome b (λ m. a ≡ Some m) → a ≡ b
 same_both_ways None None there back = refl
@@ -56,22 +54,8 @@ same_both_ways (Some m) b there back = sym there
 pub same_moves : (chans : ChanSet) (old new : List Move) → AreAmong chans old new → AreAmong chans new old → (c : ℕ)
     → has_chan chans c ≡ false → entry_at (λ m. m.chan) c old ≡ entry_at (λ m. m.chan) c new
 same_moves chans old new there back c out =
-    same_both_ways (entry_at (λ m. m.chan) c old) (entry_at (λ m. m.chan) c new) (among_found chans old new c _ refl out there)
-    (among_found chans new old c _ refl out back)
-
-le_is : (a b : ℕ) → nat_le a b ≡ true → a ≤ b
-le_is a b is = grind (arith, nat_tests)
-
-both_left : (a b : Bool) → (a && b) ≡ true → a ≡ true
-both_left true b is = refl
-both_left false b is = absurd (false≢true is)
-
-both_right : (a b : Bool) → (a && b) ≡ true → b ≡ true
-both_right true b is = is
-both_right false b is = absurd (false≢true is)
-
-both_true : (a b : Bool) → a ≡ true → b ≡ true → (a && b) ≡ true
-both_true a b one other = ap (λ x. x && b) one ∙ other
+    same_both_ways (entry_at (λ m. m.chan) c old) (entry_at (λ m. m.chan) c new) (among_found chans old new c out there)
+    (among_found chans new old c out back)
 
 -- the channel's move of a cue that may be absent is one of its moves
 pub move_by-moves : (cue : Option Cue) (c : ℕ) → move_by cue c ≡ entry_at (λ m. m.chan) c (moves_of_cue cue)
@@ -79,35 +63,14 @@ move_by-moves None c = refl
 move_by-moves (Some cue) c = refl
 
 -- Moves of a range.
-low_passes : (a c first : ℕ) (last : Bool) → (nat_le first c && last) ≡ true → 1 ≤ first → (a == c) ≡ true → nat_lt (first - 1) a ≡ true
-low_passes a c first last within least same =
-    lt_true (first - 1) a (omega (arith, le_is first c (both_left (nat_le first c) last within), eq_from a c same, least))
-
-high_passes : (a c last : ℕ) (first : Bool) → (first && nat_le c last) ≡ true → (a == c) ≡ true → nat_le a last ≡ true
-high_passes a c last first within same =
-    le_true a last (omega (arith, le_is c last (both_right first (nat_le c last) within), eq_from a c same))
-
 -- the moves of a range have that of each channel of it
 pub part_has : (range : Span) (c : ℕ) (moves from part : List Move) (first last : ℕ) → 1 ≤ first → first ≡ range.first → last ≡ range.last
     → from ≡ entries_above (λ m. m.chan) (first - 1) moves → part ≡ entries_up_to (λ m. m.chan) last from
     → covers range c ≡ true → entry_at (λ m. m.chan) c part ≡ entry_at (λ m. m.chan) c moves
 part_has range c moves from part first last least first_is last_is from_is part_is within =
-    let inside : (nat_le first c && nat_le c last) ≡ true =
-    ap (λ k. nat_le k c && nat_le c last) first_is ∙ ap (λ k. nat_le range.first c && nat_le c k) last_is ∙ within in
-    ap (λ (ms : List Move). entry_at (λ m. m.chan) c ms) part_is
-    ∙ find_in_filter (λ m. m.chan == c) (λ m. nat_le m.chan last) from (λ m same. high_passes m.chan c last (nat_le first c) inside same)
-    ∙ ap (λ (ms : List Move). entry_at (λ m. m.chan) c ms) from_is
-    ∙ find_in_filter (λ m. m.chan == c) (λ m. nat_lt (first - 1) m.chan) moves
-    (λ m same. low_passes m.chan c first (nat_le c last) inside least same)
-
-within_step : (range : Span) (old new part_old part_new : List Move) (chans : ChanSet) (c : ℕ) (inside : Bool) → covers range c ≡ inside
-    → SameOutside range old new
-    → (covers range c ≡ true → entry_at (λ m. m.chan) c part_old ≡ entry_at (λ m. m.chan) c old)
-    → (covers range c ≡ true → entry_at (λ m. m.chan) c part_new ≡ entry_at (λ m. m.chan) c new)
-    → entry_at (λ m. m.chan) c part_old ≡ entry_at (λ m. m.chan) c part_new
-    → entry_at (λ m. m.chan) c old ≡ entry_at (λ m. m.chan) c new
-within_step range old new part_old part_new chans c true is outside was now same = sym (was is) ∙ same ∙ now is
-within_step range old new part_old part_new chans c false is outside was now same = outside c is
+    let inside : (nat_le first c && nat_le c last) ≡ true = rw (first_is, last_is) within in
+    rw (part_is, from_is) (find_in_filter (λ m. m.chan == c) (λ m. nat_le m.chan last) _ (λ m same. grind (arith, nat_tests))
+    ∙ find_in_filter (λ m. m.chan == c) (λ m. nat_lt (first - 1) m.chan) moves (λ m same. grind (arith, nat_tests)))
 
 -- where those of the range are compared, and the others are the same
 pub same_within : (range : Span) (old new part_old part_new : List Move) (chans : ChanSet) → SameOutside range old new
@@ -115,8 +78,10 @@ pub same_within : (range : Span) (old new part_old part_new : List Move) (chans 
     → ((c : ℕ) → covers range c ≡ true → entry_at (λ m. m.chan) c part_new ≡ entry_at (λ m. m.chan) c new)
     → ((c : ℕ) → has_chan chans c ≡ false → entry_at (λ m. m.chan) c part_old ≡ entry_at (λ m. m.chan) c part_new)
     → (c : ℕ) → has_chan chans c ≡ false → entry_at (λ m. m.chan) c old ≡ entry_at (λ m. m.chan) c new
-same_within range old new part_old part_new chans outside was now same c out =
-    within_step range old new part_old part_new chans c (covers range c) refl outside (was c) (now c) (same c out)
+same_within range old new part_old part_new chans outside was now same c out = elim (cases_Bool (covers range c)) [
+  | inl is ↦ sym (was c is) ∙ same c out ∙ now c is
+  | inr is ↦ outside c is
+]
 
 -- Moves placed, left out or of a valid cue are the same outside their range.
 placed_others : (c : ℕ) (more moves : List Move) → AllByRecursion (λ m. c ≡ m.chan → ⊥) more
@@ -128,8 +93,8 @@ placed_others c (m ∷ ms) moves all =
 
 pub not_covered : (first last c k : ℕ) → (nat_le first c && nat_le c last) ≡ false → first ≤ k → k ≤ last → c ≡ k → ⊥
 not_covered first last c k out low high is =
-    false≢true (sym out ∙ both_true (nat_le first c) (nat_le c last) (le_true first c (omega (arith, low, is)))
-    (le_true c last (omega (arith, high, is))))
+    let inside : (nat_le first c && nat_le c last) ≡ true = grind (arith, nat_tests) in
+    false≢true (sym out ∙ inside)
 
 range_others : (first last c level a n : ℕ) (part : ℕ → ℕ) → (nat_le first c && nat_le c last) ≡ false → first ≤ a → a + n ≤ last + 1
     → AllByRecursion (λ (m : Move). c ≡ m.chan → ⊥)

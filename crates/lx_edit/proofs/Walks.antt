@@ -1,12 +1,13 @@
--- Tracking as a walk up the cues: what each makes of the level that tracks into it.
+-- Tracking as a walk up the cues: what each makes of the level that tracks into it. A cue is changed, or goes: what is tracked then.
 use Rattle.lx_edit.proofs.Imports.{◌≡◌, ℕ, ◌-◌, ◌<◌, ◌≤◌, Bool, true, false, cond, List, [], ◌∷◌, ◌++◌, Some, None, refl}
-use Rattle.lx_edit.proofs.Imports.{◌∙◌, sym, ap, subst, arith, Option, find, fold, reverse, slice_get, ◌&&◌, nat_le, nat_lt, if◌then◌else◌}
-use Rattle.lx_edit.proofs.Imports.{option_map_or, option_or, nat_tests, find-append, fold-append, filter-append, IsStrictlySorted, placed, taken_out}
-use Rattle.lx_edit.proofs.Imports.{entries_below, entries_above, Cue, Show, tracked, decides, level_in, cue_above, with_cue, without_cue, entries_up_to}
-use Rattle.lx_edit.proofs.Imports.{and_known, le_false, le_true, each, filter_all, filter_none, find_both_last, find_first, none_differs, passes}
-use Rattle.lx_edit.proofs.Imports.{IsStrictlySorted-filter, below_and_above}
+use Rattle.lx_edit.proofs.Imports.{◌∙◌, sym, ap, arith, Option, IfSome, find, fold, reverse, slice_get, nat_le, nat_lt, ◌==◌, not, if◌then◌else◌}
+use Rattle.lx_edit.proofs.Imports.{option_map_or, option_or, option_to_list, nat_tests, append-nil, find-append, fold-append, filter-append, IsStrictlySorted}
+use Rattle.lx_edit.proofs.Imports.{entries_below, entries_above, Cue, Show, tracked, cue_of, decides, level_in, cue_above, with_cue, entries_up_to}
+use Rattle.lx_edit.proofs.Imports.{exchanged_at, changed_show, level_from, le_false, le_true, lt_false, each, filter_none, find_both_last, find_first}
+use Rattle.lx_edit.proofs.Imports.{none_differs, some_same, subst, IsStrictlySorted-filter}
 use mathlib.Core.List.{reverse-cons}
-use Rattle.lx_edit.proofs.Lists.{filter_both, filter_same}
+use Rattle.lx_edit.proofs.Lists.{filter_again, filter_lost, filter_same, filter_within}
+use Rattle.lx_edit.proofs.SameLists.{exchanged_parts, exchanged_same, found_here}
 
 -- what the cue makes of the level that tracks into it
 abbrev pub through : ℕ → ℕ → Cue → ℕ
@@ -15,6 +16,10 @@ through c base cue = if decides cue c then level_in cue c else base
 -- what the cues make of it, one after the other
 abbrev pub walked : ℕ → ℕ → List Cue → ℕ
 walked c base cues = fold (λ level cue. through c level cue) base cues
+
+-- the cues above a number, up to another
+abbrev pub later : Show → ℕ → ℕ → List Cue
+later show n m = entries_up_to (λ cue. cue.number) m (entries_above (λ cue. cue.number) n show.cues)
 
 or_step : (c base : ℕ) (x : Cue) (found : Option Cue) (b : Bool)
     → option_map_or (λ cue. level_in cue c) (option_or found (cond b (Some x) None)) base
@@ -33,128 +38,119 @@ last_decides c base (x ∷ xs) =
     ∙ or_step c base x (find (λ cue. decides cue c) (reverse xs)) (decides x c)
     ∙ last_decides c (through c base x) xs
 
-pub tracked-walked : (show : Show) (n c : ℕ) → tracked show n c ≡ walked c 0 (entries_up_to (λ cue. cue.number) n show.cues)
+tracked-walked : (show : Show) (n c : ℕ) → tracked show n c ≡ walked c 0 (entries_up_to (λ cue. cue.number) n show.cues)
 tracked-walked show n c = ap (λ (o : Option Cue). option_map_or (λ cue. level_in cue c) o 0)
     (sym (find_both_last (λ cue. nat_le cue.number n) (λ cue. decides cue c) show.cues))
     ∙ last_decides c 0 (entries_up_to (λ cue. cue.number) n show.cues)
 
-le_from_lt : (a k m : ℕ) → nat_lt a k ≡ true → k ≤ m → nat_le a m ≡ true
-le_from_lt a k m low le = grind (arith, nat_tests)
+-- An entry is exchanged. Up to a lower number the entries are the same.
+up_to_below : {A : Type 0} (key : A → ℕ) (n m : ℕ) (new : Option A) (xs : List A) → m < n → IfSome new (λ x. key x ≡ n)
+    → entries_up_to key m (exchanged_at key n new xs) ≡ entries_up_to key m xs
+up_to_below key n m None xs less number = filter_within (λ y. nat_le (key y) m) (λ y. not (key y == n)) xs (λ y h. grind (arith, nat_tests))
+up_to_below key n m (Some x) xs less number =
+    let at : key x ≡ n = number in
+    filter-append (λ y. nat_le (key y) m) (entries_below key (key x) xs) (x ∷ entries_above key (key x) xs)
+    ∙ rw (
+      le_false (key x) m (omega (arith, at, less)),
+      filter_lost (λ y. nat_le (key y) m) (λ y. nat_lt (key x) (key y)) xs (λ y h. grind (arith, nat_tests)),
+      filter_within (λ y. nat_le (key y) m) (λ y. nat_lt (key y) (key x)) xs (λ y h. grind (arith, nat_tests)),
+    ) (append-nil _)
 
-lt_from_le : (a m k : ℕ) → m < k → nat_le a m ≡ true → nat_lt a k ≡ true
-lt_from_le a m k less le = grind (arith, nat_tests)
+-- above a number that isn't lower too
+pub above_exchanged : {A : Type 0} (key : A → ℕ) (n k : ℕ) (new : Option A) (xs : List A) → n ≤ k → IfSome new (λ x. key x ≡ n)
+    → entries_above key k (exchanged_at key n new xs) ≡ entries_above key k xs
+above_exchanged key n k None xs le number = filter_within (λ y. nat_lt k (key y)) (λ y. not (key y == n)) xs (λ y h. grind (arith, nat_tests))
+above_exchanged key n k (Some x) xs le number =
+    let at : key x ≡ n = number in
+    filter-append (λ y. nat_lt k (key y)) (entries_below key (key x) xs) (x ∷ entries_above key (key x) xs)
+    ∙ rw (
+      lt_false k (key x) (omega (arith, at, le)),
+      filter_lost (λ y. nat_lt k (key y)) (λ y. nat_lt (key y) (key x)) xs (λ y h. grind (arith, nat_tests)),
+    )
+    (filter_within (λ y. nat_lt k (key y)) (λ y. nat_lt (key x) (key y)) xs (λ y h. grind (arith, nat_tests)))
 
-not_le_above : (a m k : ℕ) → m < k → nat_lt k a ≡ true → nat_le a m ≡ false
-not_le_above a m k less above = grind (arith, nat_tests)
+-- and up to one that isn't lower they are those below it, the new one, and those above it
+up_to_option : {A : Type 0} (key : A → ℕ) (n m : ℕ) (new : Option A) (xs : List A) → n ≤ m → IfSome new (λ x. key x ≡ n)
+    → entries_up_to key m (option_to_list new ++ xs) ≡ option_to_list new ++ entries_up_to key m xs
+up_to_option key n m None xs le number = refl
+up_to_option key n m (Some x) xs le number = let at : key x ≡ n = number in rw (le_true (key x) m (omega (arith, at, le))) refl
+
+up_to_exchanged : {A : Type 0} (key : A → ℕ) (n m : ℕ) (new : Option A) (xs : List A) → n ≤ m → IfSome new (λ x. key x ≡ n)
+    → IsStrictlySorted key xs → entries_up_to key m (exchanged_at key n new xs)
+    ≡ entries_below key n xs ++ (option_to_list new ++ entries_up_to key m (entries_above key n xs))
+up_to_exchanged key n m new xs le number sorted =
+    ap (entries_up_to key m) (exchanged_parts key n new xs number sorted)
+    ∙ filter-append (λ y. nat_le (key y) m) (entries_below key n xs) (option_to_list new ++ entries_above key n xs)
+    ∙ rw (filter_again (λ y. nat_le (key y) m) (λ y. nat_lt (key y) n) xs (λ y h. grind (arith, nat_tests)))
+    (ap (λ ys. entries_below key n xs ++ ys) (up_to_option key n m new (entries_above key n xs) le number))
 
 below_as_up_to : (a n : ℕ) → 1 ≤ n → nat_le a (n - 1) ≡ nat_lt a n
 below_as_up_to a n least = grind (arith, nat_tests)
 
--- the entries below a number, up to one that isn't below it
-pub below_up_to : {A : Type 0} (key : A → ℕ) (k m : ℕ) (xs : List A) → k ≤ m
-    → entries_up_to key m (entries_below key k xs) ≡ entries_below key k xs
-below_up_to key k m xs le = filter_all _ _ (each _ _ _ (λ y h. le_from_lt (key y) k m h le) (passes (λ y. nat_lt (key y) k) xs))
-
--- the walk up to a number that isn't below a placed entry's
-pub up_to_placed : {A : Type 0} (key : A → ℕ) (m : ℕ) (x : A) (xs : List A) → key x ≤ m
-    → entries_up_to key m (placed key x xs) ≡ entries_below key (key x) xs ++ (x ∷ entries_up_to key m (entries_above key (key x) xs))
-up_to_placed key m x xs le =
-    filter-append (λ y. nat_le (key y) m) (entries_below key (key x) xs) (x ∷ entries_above key (key x) xs)
-    ∙ rw (below_up_to key (key x) m xs le, le_true (key x) m le) refl
-
-pub up_to_taken : {A : Type 0} (key : A → ℕ) (n m : ℕ) (xs : List A) → IsStrictlySorted key xs → n ≤ m
-    → entries_up_to key m (taken_out key n xs) ≡ entries_below key n xs ++ entries_up_to key m (entries_above key n xs)
-up_to_taken key n m xs sorted le =
-    ap (entries_up_to key m) (sym (below_and_above key n xs sorted))
-    ∙ filter-append (λ y. nat_le (key y) m) (entries_below key n xs) (entries_above key n xs)
-    ∙ rw (below_up_to key n m xs le) refl
-
--- the walk up to a number below the placed entry's is the same
-none_above : {A : Type 0} (key : A → ℕ) (k m : ℕ) (xs : List A) → m < k → entries_up_to key m (entries_above key k xs) ≡ []
-none_above key k m xs less = filter_none _ _ (each _ _ _ (λ y h. not_le_above (key y) m k less h) (passes (λ y. nat_lt k (key y)) xs))
-
-low_part : {A : Type 0} (key : A → ℕ) (k m : ℕ) (xs : List A) → m < k
-    → entries_up_to key m (entries_below key k xs) ≡ entries_up_to key m xs
-low_part key k m xs less =
-    filter_both (λ y. nat_lt (key y) k) (λ y. nat_le (key y) m) xs
-    ∙ filter_same (λ y. nat_lt (key y) k && nat_le (key y) m) (λ y. nat_le (key y) m) xs
-    (λ y. and_known (nat_lt (key y) k) (nat_le (key y) m) (λ h. lt_from_le (key y) m k less h))
-
-append_nil_right : {A : Type 0} (xs ys : List A) → ys ≡ [] → xs ++ ys ≡ xs
-append_nil_right [] ys none = none
-append_nil_right (x ∷ xs) ys none = ap (λ zs. x ∷ zs) (append_nil_right xs ys none)
-
-pub up_to_placed_below : {A : Type 0} (key : A → ℕ) (m : ℕ) (x : A) (xs : List A) → m < key x
-    → entries_up_to key m (placed key x xs) ≡ entries_up_to key m xs
-up_to_placed_below key m x xs less =
-    filter-append (λ y. nat_le (key y) m) (entries_below key (key x) xs) (x ∷ entries_above key (key x) xs)
-    ∙ append_nil_right (entries_up_to key m (entries_below key (key x) xs)) (entries_up_to key m (x ∷ entries_above key (key x) xs))
-    (rw (le_false (key x) m less) (none_above key (key x) m xs less))
-    ∙ low_part key (key x) m xs less
-
-pub up_to_taken_below : {A : Type 0} (key : A → ℕ) (n m : ℕ) (xs : List A) → IsStrictlySorted key xs → m < n
-    → entries_up_to key m (taken_out key n xs) ≡ entries_up_to key m xs
-up_to_taken_below key n m xs sorted less =
-    ap (entries_up_to key m) (sym (below_and_above key n xs sorted))
-    ∙ filter-append (λ y. nat_le (key y) m) (entries_below key n xs) (entries_above key n xs)
-    ∙ append_nil_right (entries_up_to key m (entries_below key n xs)) (entries_up_to key m (entries_above key n xs))
-    (none_above key n m xs less)
-    ∙ low_part key n m xs less
-
 -- the level that tracks into a number
-pub tracked_into : (show : Show) (n c : ℕ) → 1 ≤ n → tracked show (n - 1) c ≡ walked c 0 (entries_below (λ cue. cue.number) n show.cues)
+tracked_into : (show : Show) (n c : ℕ) → 1 ≤ n → tracked show (n - 1) c ≡ walked c 0 (entries_below (λ cue. cue.number) n show.cues)
 tracked_into show n c least = tracked-walked show (n - 1) c
     ∙ ap (walked c 0) (filter_same (λ (cue : Cue). nat_le cue.number (n - 1)) (λ (cue : Cue). nat_lt cue.number n) show.cues
     (λ cue. below_as_up_to cue.number n least))
 
--- the tracked level from a placed cue on: that which it makes of what tracks into it, and what the cues above make of that
-pub tracked-with_cue : (show : Show) (cue : Cue) (m c : ℕ) → 1 ≤ cue.number → cue.number ≤ m
-    → tracked (with_cue show cue) m c ≡ walked c (through c (tracked show (cue.number - 1) c) cue)
-    (entries_up_to (λ x. x.number) m (entries_above (λ x. x.number) cue.number show.cues))
-tracked-with_cue show cue m c least le =
-    let key : Cue → ℕ = λ x. x.number in
-    let later = entries_up_to key m (entries_above key cue.number show.cues) in
-    tracked-walked (with_cue show cue) m c
-    ∙ ap (walked c 0) (up_to_placed key m cue show.cues le)
-    ∙ fold-append (λ level x. through c level x) 0 (entries_below key cue.number show.cues) (cue ∷ later)
-    ∙ ap (λ base. walked c (through c base cue) later) (sym (tracked_into show cue.number c least))
+walked_option : (c base : ℕ) (new : Option Cue) (cues : List Cue)
+    → walked c base (option_to_list new ++ cues) ≡ walked c (level_from new c base) cues
+walked_option c base None cues = refl
+walked_option c base (Some cue) cues = refl
 
-pub tracked-without_cue : (show : Show) (n m c : ℕ) → IsStrictlySorted (λ x. x.number) show.cues → 1 ≤ n → n ≤ m
-    → tracked (without_cue show n) m c ≡ walked c (tracked show (n - 1) c)
-    (entries_up_to (λ x. x.number) m (entries_above (λ x. x.number) n show.cues))
-tracked-without_cue show n m c sorted least le =
+-- the tracked level from a changed cue on: what it makes of what tracks into it, and what the cues above make of that
+pub tracked_changed : (show : Show) (n m c : ℕ) (new : Option Cue) → 1 ≤ n → n ≤ m → IfSome new (λ cue. cue.number ≡ n)
+    → IsStrictlySorted (λ x. x.number) show.cues
+    → tracked (changed_show show n new) m c ≡ walked c (level_from new c (tracked show (n - 1) c)) (later show n m)
+tracked_changed show n m c new least le number sorted =
     let key : Cue → ℕ = λ x. x.number in
-    let later = entries_up_to key m (entries_above key n show.cues) in
-    tracked-walked (without_cue show n) m c
-    ∙ ap (walked c 0) (up_to_taken key n m show.cues sorted le)
-    ∙ fold-append (λ level x. through c level x) 0 (entries_below key n show.cues) later
-    ∙ ap (λ base. walked c base later) (sym (tracked_into show n c least))
+    tracked-walked (changed_show show n new) m c
+    ∙ ap (walked c 0) (up_to_exchanged key n m new show.cues le number sorted)
+    ∙ fold-append (λ level x. through c level x) 0 (entries_below key n show.cues) (option_to_list new ++ later show n m)
+    ∙ ap (λ base. walked c base (option_to_list new ++ later show n m)) (sym (tracked_into show n c least))
+    ∙ walked_option c (tracked show (n - 1) c) new (later show n m)
 
--- below the changed cue nothing is changed
+-- below it nothing is changed
+pub tracked_below : (show : Show) (n m c : ℕ) (new : Option Cue) → m < n → IfSome new (λ cue. cue.number ≡ n)
+    → tracked (changed_show show n new) m c ≡ tracked show m c
+tracked_below show n m c new less number = tracked-walked (changed_show show n new) m c
+    ∙ ap (walked c 0) (up_to_below (λ (x : Cue). x.number) n m new show.cues less number) ∙ sym (tracked-walked show m c)
+
 pub tracked_below-with_cue : (show : Show) (cue : Cue) (m c : ℕ) → m < cue.number → tracked (with_cue show cue) m c ≡ tracked show m c
-tracked_below-with_cue show cue m c less = tracked-walked (with_cue show cue) m c
-    ∙ ap (walked c 0) (up_to_placed_below (λ (x : Cue). x.number) m cue show.cues less) ∙ sym (tracked-walked show m c)
+tracked_below-with_cue show cue m c less = tracked_below show cue.number m c (Some cue) less refl
 
-pub tracked_below-without_cue : (show : Show) (n m c : ℕ) → IsStrictlySorted (λ x. x.number) show.cues → m < n
-    → tracked (without_cue show n) m c ≡ tracked show m c
-tracked_below-without_cue show n m c sorted less = tracked-walked (without_cue show n) m c
-    ∙ ap (walked c 0) (up_to_taken_below (λ (x : Cue). x.number) n m show.cues sorted less) ∙ sym (tracked-walked show m c)
+-- a cue that is there, or isn't, changed to itself
+pub same_show : (show : Show) (n : ℕ) → IsStrictlySorted (λ x. x.number) show.cues → changed_show show n (cue_of show n) ≡ show
+same_show show n sorted = ap (λ (cues : List Cue). record show { cues = cues }) (exchanged_same (λ (x : Cue). x.number) n show.cues sorted)
 
-some_is : {A : Type 0} (x y : A) → Some x ≡ Some y → x ≡ y
-some_is x y is = cc
+-- the tracked level from a number on, by what comes at the number
+pub tracked_split : (show : Show) (n m c : ℕ) → 1 ≤ n → n ≤ m → IsStrictlySorted (λ x. x.number) show.cues
+    → tracked show m c ≡ walked c (level_from (cue_of show n) c (tracked show (n - 1) c)) (later show n m)
+tracked_split show n m c least le sorted =
+    ap (λ (s : Show). tracked s m c) (sym (same_show show n sorted))
+    ∙ tracked_changed show n m c (cue_of show n) least le (found_here (λ (x : Cue). x.number) n show.cues) sorted
+
+-- and by the level that is tracked at it
+pub tracked_on : (show : Show) (n m c : ℕ) → 1 ≤ n → n ≤ m → IsStrictlySorted (λ x. x.number) show.cues
+    → tracked show m c ≡ walked c (tracked show n c) (later show n m)
+tracked_on show n m c least le sorted =
+    let base = level_from (cue_of show n) c (tracked show (n - 1) c) in
+    let none : later show n n ≡ [] = filter_lost (λ (x : Cue). nat_le x.number n) (λ (x : Cue). nat_lt n x.number) show.cues
+    (λ x h. grind (arith, nat_tests)) in
+    tracked_split show n m c least le sorted
+    ∙ ap (λ level. walked c level (later show n m)) (sym (tracked_split show n n c least (omega arith) sorted ∙ ap (walked c base) none))
 
 -- a list that begins with what is found first
 begins : {A : Type 0} (key : A → ℕ) (x : A) (ys : List A) → slice_get ys 0 ≡ Some x → IsStrictlySorted key ys
     → entries_up_to key (key x) ys ≡ x ∷ []
 begins key x [] is sorted = absurd (none_differs x is)
 begins {A} key x (y ∷ ys) is sorted =
-    let same : y ≡ x = some_is y x is in
-    subst (λ (z : A). entries_up_to key (key z) (y ∷ ys) ≡ z ∷ []) same
+    subst (λ (z : A). entries_up_to key (key z) (y ∷ ys) ≡ z ∷ []) (some_same y x is)
     (rw (le_true (key y) (key y) (omega arith))
     (ap (λ zs. y ∷ zs) (filter_none _ ys (each _ _ ys (λ z h. le_false (key z) (key y) h) sorted.0))))
 
 -- of the cues above a number, those up to the first are that one
 pub up_to_first : (show : Show) (n : ℕ) (above : Cue) → IsStrictlySorted (λ x. x.number) show.cues → cue_above show n ≡ Some above
-    → entries_up_to (λ x. x.number) above.number (entries_above (λ x. x.number) n show.cues) ≡ above ∷ []
+    → later show n above.number ≡ above ∷ []
 up_to_first show n above sorted is = begins (λ (x : Cue). x.number) above (entries_above (λ x. x.number) n show.cues)
     (find_first (λ (x : Cue). nat_lt n x.number) show.cues ∙ is) (IsStrictlySorted-filter (λ (x : Cue). x.number) _ show.cues sorted)

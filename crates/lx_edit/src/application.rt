@@ -76,7 +76,7 @@ impl Plan {
     {
         match self {
             Plan::Nothing => Exchanged {
-                dirty: Dirty::nothing(),
+                dirty: Dirty::apart(None, false),
                 undo: Plan::Nothing,
             },
             Plan::Cue {
@@ -94,15 +94,15 @@ impl Plan {
             Plan::Move { cue, to } => exchange_move(show, sheet, cue, &to),
             Plan::Moves { cue, to, within } => exchange_moves(show, sheet, cue, to, within),
             Plan::Group { number, to } => Exchanged {
-                dirty: Dirty::nothing(),
+                dirty: Dirty::apart(None, false),
                 undo: exchange_group(show, number, to),
             },
             Plan::Sub { number, to } => Exchanged {
-                dirty: Dirty::of_sub(),
+                dirty: Dirty::apart(None, true),
                 undo: exchange_sub(show, number, to),
             },
             Plan::Row { dimmer, to } => Exchanged {
-                dirty: Dirty::of_dimmer(dimmer),
+                dirty: Dirty::apart(Some(dimmer), false),
                 undo: exchange_row(show, dimmer, to),
             },
         }

@@ -68,19 +68,15 @@ fn with_time(part: Part, rising: bool, time: Cs, delay: Cs) -> Part
 {
     if rising {
         Part {
-            number: part.number,
             up: time,
             up_delay: delay,
-            down: part.down,
-            down_delay: part.down_delay,
+            ..part
         }
     } else {
         Part {
-            number: part.number,
-            up: part.up,
-            up_delay: part.up_delay,
             down: time,
             down_delay: delay,
+            ..part
         }
     }
 }

@@ -21,13 +21,17 @@ pub struct Dirty {
 }
 
 impl Dirty {
-    /// Nothing that others depend on.
-    pub(crate) fn nothing() -> Dirty
+    /// No channel; perhaps the row of a dimmer, or a submaster.
+    pub(crate) fn apart(dimmer: Option<Dimmer>, subs: bool) -> Dirty
         ensures chans { (c : ℕ) → has_chan result.chans c ≡ false }
-        ensures dimmer { result.dimmer ≡ None }
-        ensures subs { result.subs ≡ false }
+        ensures dimmer { result.dimmer ≡ dimmer }
+        ensures subs { result.subs ≡ subs }
     {
-        Dirty::of_cues(ChanSet::empty())
+        Dirty {
+            chans: ChanSet::empty(),
+            dimmer,
+            subs,
+        }
     }
 
     /// These channels, in cues.
@@ -54,32 +58,6 @@ impl Dirty {
             chans: ChanSet::all(),
             dimmer: self.dimmer,
             subs: self.subs,
-        }
-    }
-
-    /// A submaster.
-    pub(crate) fn of_sub() -> Dirty
-        ensures chans { (c : ℕ) → has_chan result.chans c ≡ false }
-        ensures dimmer { result.dimmer ≡ None }
-        ensures subs { result.subs ≡ true }
-    {
-        Dirty {
-            chans: ChanSet::empty(),
-            dimmer: None,
-            subs: true,
-        }
-    }
-
-    /// The row of a dimmer.
-    pub(crate) fn of_dimmer(dimmer: Dimmer) -> Dirty
-        ensures chans { (c : ℕ) → has_chan result.chans c ≡ false }
-        ensures dimmer { result.dimmer ≡ Some dimmer }
-        ensures subs { result.subs ≡ false }
-    {
-        Dirty {
-            chans: ChanSet::empty(),
-            dimmer: Some(dimmer),
-            subs: false,
         }
     }
 }

@@ -92,7 +92,7 @@ fn kept_above<H: Heap>(
     only: bool,
 ) -> Result<Option<Cue>, AllocError>
     requires there { FoundCue show.now n old.now }
-    requires number { IfSome new (λ cue. cue.now.number ≡ n) }
+    requires number { IfSome (option_copied new) (λ cue. cue.number ≡ n) }
     requires within { DecidesOutside within show.now.channels old.now (option_copied new) }
     ensures above { IfOk result (λ above. with_above above (changed_show show.now n (option_copied new.entry))
         ≡ cue_only only show.now n (changed_show show.now n (option_copied new.entry))) }
@@ -126,7 +126,7 @@ fn kept_moves<H: Heap>(
     within: ChanRange,
 ) -> Result<Vec<Move>, AllocError>
     requires there { FoundCue show.now n old.now }
-    requires number { IfSome new (λ cue. cue.now.number ≡ n) }
+    requires number { IfSome (option_copied new) (λ cue. cue.number ≡ n) }
     requires within { DecidesOutside within show.now.channels old.now (option_copied new) }
     requires above { cue_above show.now n ≡ Some above.now }
     ensures items { IfOk result (λ moves. moves.items
@@ -160,7 +160,7 @@ fn kept_level(
     near: &mut usize,
 ) -> Option<Level>
     requires there { FoundCue show.now n old.now }
-    requires number { IfSome new (λ cue. cue.now.number ≡ n) }
+    requires number { IfSome (option_copied new) (λ cue. cue.number ≡ n) }
     requires above { cue_above show.now n ≡ Some above.now }
     ensures { result ≡ (if not (tracked show.now above.now.number c == tracked
         (changed_show show.now n (option_copied new.entry)) above.now.number c) then Some
@@ -184,7 +184,7 @@ fn differs(
     near: &mut usize,
 ) -> bool
     requires there { FoundCue show.now n old.now }
-    requires number { IfSome new (λ cue. cue.now.number ≡ n) }
+    requires number { IfSome (option_copied new) (λ cue. cue.number ≡ n) }
     requires above { cue_above show.now n ≡ Some above.now }
     ensures { result ≡ not (tracked show.now above.now.number c == tracked
         (changed_show show.now n (option_copied new.entry)) above.now.number c) }
@@ -192,7 +192,7 @@ fn differs(
     if above.decides_near(c, near) {
         return false;
     }
-    match (decided(old, c), decided_by(new, c)) {
+    match (decided_by(Some(old), c), decided_by(new, c)) {
         (None, None) => false,
         (Some(was), Some(is)) => was != is,
         (Some(was), None) => was != show.tracked(below(n), c),
@@ -200,23 +200,12 @@ fn differs(
     }
 }
 
-/// The level that the cue decides for the channel, if it does.
-fn decided(cue: &Cue, c: Chan) -> Option<Level>
-    ensures { result ≡ decided cue.now c }
-{
-    if cue.decides(c) {
-        Some(cue.level_of(c))
-    } else {
-        None
-    }
-}
-
-/// The same of a cue that may be absent.
+/// The level that the cue, which may be absent, decides for the channel, if it does.
 fn decided_by(cue: Option<&Cue>, c: Chan) -> Option<Level>
     ensures { result ≡ decided_by (option_copied cue.entry) c }
 {
     match cue {
-        Some(cue) => decided(cue, c),
-        None => None,
+        Some(cue) if cue.decides(c) => Some(cue.level_of(c)),
+        _ => None,
     }
 }

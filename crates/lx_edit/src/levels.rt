@@ -42,27 +42,6 @@ pub(crate) fn set<H: Heap>(
     Ok(place(heap, show, n, old, cue, range, only)?)
 }
 
-/// The move of the range's one channel to the level, where the range is one channel, of which the cue has a move.
-fn other_move(cue: &Cue, part: Option<PartNo>, range: ChanRange, level: Level) -> Option<Move>
-    ensures one { IfSome result (λ _. range.first ≡ range.last) }
-    ensures entry { IfSome result (λ entry. entry
-        ≡ record { chan = range.first; part = part_for part cue.now range.first; level = level }) }
-    ensures chan { IfSome result (λ entry. InRange CHANNELS entry.chan) }
-    ensures level { IfSome result (λ entry. IsLevel entry.level) }
-    ensures there { IfSome result (λ entry. IsTrue (has_entry (λ m. m.chan) entry.chan cue.now.moves)) }
-{
-    let chan = range.first();
-    if chan.get() != range.last().get() {
-        return None;
-    }
-    let old = cue.move_of(chan)?;
-    Some(Move {
-        chan,
-        part: part.unwrap_or(old.part),
-        level,
-    })
-}
-
 /// The move that is all that the edit changes: that of the range's one channel, of which the cue has one; and cue only, where
 /// nothing of it is seen at the cue above.
 fn move_alone(
@@ -85,7 +64,16 @@ fn move_alone(
     if only && !ends_above(show, n, range.first()) {
         return None;
     }
-    other_move(cue, part, range, level)
+    let chan = range.first();
+    if chan.get() != range.last().get() {
+        return None;
+    }
+    let old = cue.move_of(chan)?;
+    Some(Move {
+        chan,
+        part: part.unwrap_or(old.part),
+        level,
+    })
 }
 
 /// The cue above, where there is one, decides the channel: whatever the cue moves it to ends there.

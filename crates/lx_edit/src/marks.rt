@@ -1,7 +1,7 @@
 //! Which channels see a difference where a cue is changed, added or taken out.
 
 ghost use Rattle.std.specs.Prelude.{◌≡◌, ◌≤◌, ◌-◌, ℕ, true, false, Some, None, IfSome, List, length, take, drop};
-ghost use Rattle.std.specs.Option.{option_copied, IsSomeAnd};
+ghost use Rattle.std.specs.Option.{option_copied, option_map_or, IsSomeAnd};
 ghost use Rattle.lx_base.specs.declared.TheConstants.{CHANNELS};
 ghost use Rattle.lx_spec.specs.Show.{Valid};
 ghost use Rattle.lx_spec.specs.SortedList.{IsStrictlySorted, entry_at};
@@ -9,7 +9,7 @@ ghost use Rattle.lx_spec.specs.TrackedLevel.{cue_of, move_in, asserts, tracked};
 ghost use Rattle.lx_sheet.specs.Rows.{level_of};
 ghost use Rattle.lx_sheet.specs.SheetMeaning.{RowsStandFor};
 ghost use Rattle.lx_edit.specs.ChanSet.{has_chan};
-ghost use Rattle.lx_edit.specs.PlanMeaning.{changed_show, planned, covers, SameOutside};
+ghost use Rattle.lx_edit.specs.PlanMeaning.{planned, covers, IsReady, SameOutside};
 ghost use Rattle.lx_edit.specs.CueChanges.{AreAmong, move_by, moves_of_cue, is_block, SameEntry, Grows};
 
 use crate::absent::channel;
@@ -217,6 +217,7 @@ fn is_block(cue: Option<&Cue>) -> bool
 
 /// The plan changes at some number whether an asserted cue is there.
 pub(crate) fn changes_asserts(show: &Show, plan: &Plan) -> bool
+    requires { IsReady show.now plan.now }
     ensures valid { result ≡ true → Valid show.now }
     ensures same { result ≡ false → (n : ℕ) → asserts show.now n ≡ asserts (planned show.now plan.now) n }
 {
@@ -233,15 +234,16 @@ pub(crate) fn changes_asserts(show: &Show, plan: &Plan) -> bool
     }
 }
 
-/// It is so where the cue of the number becomes this one, or goes.
+/// The cue of the number is asserted where this one isn't, or the other way round. A cue that is absent isn't.
 fn changes_at(show: &Show, n: CueNo, to: &Option<Cue>) -> bool
     ensures valid { Valid show.now }
-    ensures same { result ≡ false → (k : ℕ) → asserts show.now k ≡ asserts (changed_show show.now n to.now) k }
+    ensures same { result ≡ false → asserts show.now n ≡ option_map_or (λ cue. cue.asserted) to.now false }
 {
-    match to {
-        Some(cue) => changes_assert(show, cue),
-        None => asserts(show, n),
-    }
+    let asserted = match to {
+        Some(cue) => cue.asserted,
+        None => false,
+    };
+    asserts(show, n) != asserted
 }
 
 /// There is a cue, and it is asserted where that of its number is not, or the other way round.
@@ -249,17 +251,9 @@ fn changes_above(show: &Show, above: &Option<Cue>) -> bool
     ensures { result ≡ false → IfSome above.now (λ cue. asserts show.now cue.number ≡ cue.asserted) }
 {
     match above {
-        Some(cue) => changes_assert(show, cue),
+        Some(cue) => changes_at(show, cue.number, above),
         None => false,
     }
-}
-
-/// The cue is asserted where that of its number is not, or the other way round.
-fn changes_assert(show: &Show, cue: &Cue) -> bool
-    ensures valid { Valid show.now }
-    ensures same { result ≡ false → asserts show.now cue.now.number ≡ cue.now.asserted }
-{
-    asserts(show, cue.number) != cue.asserted
 }
 
 /// The cue of the number is there, and asserted.

@@ -1,5 +1,5 @@
-use Rattle.lx_edit.proofs.Imports.{◌≡◌, ap, sym, subst, ℕ, rules, IsTrue, is_some, Cue, cue_of}
-use Rattle.lx_edit.proofs.ChangedColumns.{others_with}
+use Rattle.lx_edit.proofs.Imports.{◌≡◌, ap, sym, subst, ℕ, rules, IsTrue, is_some, Some, Cue, cue_of}
+use Rattle.lx_edit.proofs.ChangedColumns.{others_changed}
 use Rattle.lx_edit.proofs.application.place_cue.Goals as goal
 
 pub mend_cue-requires : goal.mend_cue-requires
@@ -22,11 +22,13 @@ mend_cue-requires c =
 pub returns-then-is_none-clause-others : goal.returns-then-is_none-clause-others
 returns-then-is_none-clause-others c =
     let number : c.cue.inside.number ≡ c.args.cue.number = ap (λ (q : Cue). q.number) c.cue.view_is in
-    others_with c.args.show.now c.exchange_cue-old.new.self c.args.cue c.cue.inside.number c.mark_change.new.chans c.exchange_cue-old.ensures.before
-    c.exchange_cue-old.ensures.show (sym number) c.requires.ready.valid.number.least c.mark_change.ensures.same
+    others_changed c.args.show.now c.exchange_cue-old.new.self c.cue.inside.number (Some c.args.cue) c.mark_change.new.chans
+    c.exchange_cue-old.ensures.before c.exchange_cue-old.ensures.show (rw number c.requires.ready.valid.number.least) (sym number)
+    c.mark_change.ensures.same
 
 pub returns-else-is_none-clause-others : goal.returns-else-is_none-clause-others
 returns-else-is_none-clause-others c =
     let number : c.cue.inside.number ≡ c.args.cue.number = ap (λ (q : Cue). q.number) c.cue.view_is in
-    others_with c.args.show.now c.exchange_cue-old.new.self c.args.cue c.cue.inside.number c.mark_change.new.chans c.exchange_cue-old.ensures.before
-    c.exchange_cue-old.ensures.show (sym number) c.requires.ready.valid.number.least c.mark_change.ensures.same
+    others_changed c.args.show.now c.exchange_cue-old.new.self c.cue.inside.number (Some c.args.cue) c.mark_change.new.chans
+    c.exchange_cue-old.ensures.before c.exchange_cue-old.ensures.show (rw number c.requires.ready.valid.number.least) (sym number)
+    c.mark_change.ensures.same

@@ -1,5 +1,5 @@
-use Rattle.lx_edit.proofs.Imports.{◌≡◌, ◌∙◌, ap, sym, subst, refl, List, Option, IsSomeAnd, AllByRecursion, Move, Part, Cue, ValidMove, with_cue}
-use Rattle.lx_edit.proofs.Imports.{SameOutside, with_above}
+use Rattle.lx_edit.proofs.Imports.{◌≡◌, ◌∙◌, ap, sym, subst, refl, List, Option, AllByRecursion, Move, Part, Cue, ValidMove, with_cue}
+use Rattle.lx_edit.proofs.Imports.{with_above}
 use Rattle.lx_edit.proofs.MoveMarks.{decided_alike}
 use Rattle.lx_edit.proofs.PlacedMoves.{changed_is}
 use Rattle.lx_edit.proofs.kept.place.Goals as goal
@@ -18,12 +18,9 @@ returns-in-None-clause-plan g c =
           ∙ ap (λ (o : Option Cue). with_above o (with_cue show cue)) (sym c.in-None.is)
           ∙ c.in_ok-above.ensures.above;
       ready = record {
-        valid = subst (λ (o : Option Cue). IsSomeAnd o (λ x. AllByRecursion (ValidMove show.channels x.parts) moves)) (sym c.requires.there.found)
-            (subst (λ (ms : List Move). AllByRecursion (ValidMove show.channels old.parts) ms) (sym c.into_moves.ensures)
-            (subst (λ (ps : List Part). AllByRecursion (ValidMove show.channels ps) cue.moves) (ap (λ (q : Cue). q.parts) same)
-            c.requires.valid.moves));
-        same = subst (λ (o : Option Cue). IsSomeAnd o (λ x. SameOutside c.args.within x.moves moves)) (sym c.requires.there.found)
-            (subst (λ (ms : List Move). SameOutside c.args.within old.moves ms) (sym c.into_moves.ensures) c.requires.within);
+        valid = rw (c.requires.there.found, c.into_moves.ensures)
+            (subst (λ (ps : List Part). AllByRecursion (ValidMove show.channels ps) cue.moves) (ap (λ (q : Cue). q.parts) same) c.requires.valid.moves);
+        same = rw (c.requires.there.found, c.into_moves.ensures) c.requires.within;
       };
       dimmer = refl;
       subs = refl;

@@ -1,5 +1,4 @@
-use Rattle.lx_edit.proofs.Imports.{◌≡◌, ◌∙◌, ap, sym, subst, false, List, ℕ, Some, rules, Option, IsSomeAnd, Move, entry_at, Cue, cue_of, move_in}
-use Rattle.lx_edit.proofs.Imports.{has_chan, SameOutside}
+use Rattle.lx_edit.proofs.Imports.{◌≡◌, ◌∙◌, ap, List, Some, rules, Move, entry_at, Cue, cue_of}
 use Rattle.lx_edit.proofs.MoveMarks.{same_within}
 use Rattle.lx_edit.proofs.marks.mark_within.Goals as goal
 
@@ -10,10 +9,7 @@ returns-in-Some c =
     let cue : Cue = c.in-Some.before.now in
     let chans = c.mark_moves.new.chans in
     let there : cue_of show c.args.n ≡ Some cue = search rules in
-    let same : SameOutside c.args.within cue.moves moves =
-    subst (λ (o : Option Cue). IsSomeAnd o (λ x. SameOutside c.args.within x.moves moves)) there c.requires.same in
     let own : c.as_slice.result.now ≡ cue.moves = c.as_slice.ensures.entries ∙ ap (λ (q : Cue). q.moves) c.before-in-Some.view_is in
-    subst (λ (o : Option Cue). IsSomeAnd o (λ x. (k : ℕ) → has_chan chans k ≡ false → move_in x k ≡ entry_at (λ m. m.chan) k moves)) (sym there)
-    (same_within c.args.within cue.moves moves c.part_of-old.result.now c.part_of.result.now chans same
+    rw there (same_within c.args.within cue.moves moves c.part_of-old.result.now c.part_of.result.now chans (rw there at c.requires.same)
     (λ k within. c.part_of-old.ensures.part k within ∙ ap (λ (ms : List Move). entry_at (λ m. m.chan) k ms) own)
     c.part_of.ensures.part c.mark_moves.ensures.same)

@@ -1,18 +1,13 @@
-use Rattle.lx_edit.proofs.Imports.{◌∙◌, sym, subst, Move, IsStrictlySorted, IsStrictlySorted-filter}
+use Rattle.lx_edit.proofs.Imports.{◌∙◌, Move, IsStrictlySorted-filter}
 use Rattle.lx_edit.proofs.MoveMarks.{part_has}
 use Rattle.lx_edit.proofs.marks.part_of.Goals as goal
 
 pub up_to-requires : goal.up_to-requires
-up_to-requires c =
-    subst (IsStrictlySorted (λ (m : Move). m.chan)) (sym c.above-from.ensures)
-    (IsStrictlySorted-filter (λ (m : Move). m.chan) _ c.args.moves.now c.requires)
+up_to-requires c = rw c.above-from.ensures (IsStrictlySorted-filter (λ (m : Move). m.chan) _ c.args.moves.now c.requires)
 
 pub returns-clause-sorted : goal.returns-clause-sorted
-returns-clause-sorted c =
-    subst (IsStrictlySorted (λ (m : Move). m.chan)) (sym c.up_to.ensures)
-    (IsStrictlySorted-filter (λ (m : Move). m.chan) _ c.above-from.result.now
-    (subst (IsStrictlySorted (λ (m : Move). m.chan)) (sym c.above-from.ensures)
-    (IsStrictlySorted-filter (λ (m : Move). m.chan) _ c.args.moves.now c.requires)))
+returns-clause-sorted c = rw (c.up_to.ensures, c.above-from.ensures)
+    (IsStrictlySorted-filter (λ (m : Move). m.chan) _ _ (IsStrictlySorted-filter (λ (m : Move). m.chan) _ c.args.moves.now c.requires))
 
 pub returns-clause-part : goal.returns-clause-part
 returns-clause-part c = λ x within.

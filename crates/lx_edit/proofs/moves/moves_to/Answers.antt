@@ -1,4 +1,4 @@
-use Rattle.lx_edit.proofs.Imports.{◌≡◌, ◌∙◌, ◌++◌, ◌∷◌, [], ap, arith, sym, List, map, take, map_more, Member, Move, part_for}
+use Rattle.lx_edit.proofs.Imports.{◌∙◌, ◌++◌, ◌∷◌, [], ap, arith, sym, List, map, take, map_more, Member, Move, part_for}
 use Rattle.lx_edit.proofs.moves.moves_to.Goals as goal
 
 pub loop-member-preserved : goal.loop-member-preserved
