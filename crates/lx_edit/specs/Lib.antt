@@ -4,3 +4,4 @@ pub mod Kept
 pub mod ChanSet
 pub mod CueChanges
 pub mod Undone
+pub mod Imports

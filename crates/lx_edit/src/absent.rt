@@ -1,12 +1,9 @@
 //! What an edit names must be there: each is found, or its absence is the refusal.
 
 ghost use Rattle.std.specs.Prelude.{◌≡◌, ℕ, ◌≤◌, Ok, Err, MatchResult, Some, None, find, is_none};
+ghost use Rattle.lx_edit.specs.Imports.{ValidGroup, entry_at, move_in, the_cue, the_part, the_given_part, the_channels, the_group};
+ghost use Rattle.lx_edit.specs.Imports.{the_moves, channels_in, FoundCue, GivenPart, IsAbsence, IsWithin};
 ghost use Rattle.lx_base.specs.declared.TheConstants.{CHANNELS};
-ghost use Rattle.lx_spec.specs.Show.{ValidGroup};
-ghost use Rattle.lx_spec.specs.SortedList.{entry_at};
-ghost use Rattle.lx_spec.specs.TrackedLevel.{move_in};
-ghost use Rattle.lx_spec.specs.EditedShow.{the_cue, the_part, the_given_part, the_channels, the_group, the_moves, channels_in};
-ghost use Rattle.lx_edit.specs.Found.{FoundCue, GivenPart, IsAbsence, IsWithin};
 
 use lx_base::{CHANNELS, Chan, ChanRange, CueNo, GroupNo, PartNo};
 use lx_show::{Cue, Group, Part, Refusal, Show};

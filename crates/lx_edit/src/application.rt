@@ -2,13 +2,9 @@
 //! what was replaced. No call takes memory.
 
 ghost use Rattle.std.specs.Prelude.{◌≡◌, ◌≤◌, false, true, None, IfSome};
-ghost use Rattle.lx_spec.specs.Show.{Valid};
-ghost use Rattle.lx_spec.specs.TrackedLevel.{cue_of};
-ghost use Rattle.lx_spec.specs.EditedShow.{with_cue, without_cue};
-ghost use Rattle.lx_sheet.specs.SheetMeaning.{RowsStandFor};
-ghost use Rattle.lx_edit.specs.CueChanges.{CanMend, Grows, KeepsLevels, KeepsOthers, Replaced};
-ghost use Rattle.lx_edit.specs.PlanMeaning.{changed_show, planned, with_above, CanExchange, CanPlace, KeepsAbove, IsReady, dimmer_planned, plans_sub};
-ghost use Rattle.lx_edit.specs.Undone.{TakesBack, cue_instead};
+ghost use Rattle.lx_edit.specs.Imports.{Valid, cue_of, with_cue, without_cue, RowsStandFor, CanMend, Grows, KeepsLevels, KeepsOthers};
+ghost use Rattle.lx_edit.specs.Imports.{Replaced, changed_show, planned, with_above, CanExchange, CanPlace, KeepsAbove, IsReady};
+ghost use Rattle.lx_edit.specs.Imports.{dimmer_planned, plans_sub, TakesBack, cue_instead};
 
 use crate::chan_set::ChanSet;
 use crate::dirty::Dirty;

@@ -2,10 +2,7 @@
 //! its look.
 
 ghost use Rattle.std.specs.Prelude.{◌≡◌, ◌-◌, ◌==◌, ◌&&◌, ℕ, not, is_none, IfOk, if◌then◌else◌, Some, None};
-ghost use Rattle.lx_io.specs.Causes.{HasCause, HasCauseOf};
-ghost use Rattle.lx_spec.specs.TrackedLevel.{move_in, tracked};
-ghost use Rattle.lx_spec.specs.EditedShow.{moves_for};
-ghost use Rattle.lx_edit.specs.PlanMeaning.{Plans};
+ghost use Rattle.lx_edit.specs.Imports.{HasCause, HasCauseOf, move_in, tracked, moves_for, Plans};
 
 use crate::absent::{channel, the_cue};
 use crate::moves::{add, with_moves};

@@ -1,10 +1,7 @@
 //! Edits of one cue that leave its levels: its times, parts, follow and label, that it is asserted, and a new cue.
 
 ghost use Rattle.std.specs.Prelude.{◌≡◌, ◌≢◌, Err, IfSome};
-ghost use Rattle.lx_io.specs.Causes.{HasCauseOf};
-ghost use Rattle.lx_spec.specs.Show.{IsTime};
-ghost use Rattle.lx_spec.specs.EditedShow.{with_time};
-ghost use Rattle.lx_edit.specs.PlanMeaning.{Plans};
+ghost use Rattle.lx_edit.specs.Imports.{HasCauseOf, IsTime, with_time, Plans};
 
 use crate::absent::{the_cue, the_part};
 use crate::plans::Plan;

@@ -1,9 +1,8 @@
 //! What an edit touched.
 
 ghost use Rattle.std.specs.Prelude.{◌≡◌, ◌≤◌, ℕ, true, false, Some, None};
+ghost use Rattle.lx_edit.specs.Imports.{has_chan, Grows};
 ghost use Rattle.lx_base.specs.declared.TheConstants.{CHANNELS};
-ghost use Rattle.lx_edit.specs.ChanSet.{has_chan};
-ghost use Rattle.lx_edit.specs.CueChanges.{Grows};
 
 use crate::chan_set::ChanSet;
 use lx_base::Dimmer;

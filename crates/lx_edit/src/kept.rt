@@ -1,14 +1,9 @@
 //! Cue only: the cue above the edited one keeps each level that it had. And cues deleted.
 
 ghost use Rattle.std.specs.Prelude.{◌≡◌, ℕ, true, false, ◌==◌, not, IfOk, IfSome, Some, None, if◌then◌else◌};
-ghost use Rattle.std.specs.Option.{option_copied};
-ghost use Rattle.lx_io.specs.Causes.{HasCause, HasCauseOf};
-ghost use Rattle.lx_spec.specs.Show.{ValidCue};
-ghost use Rattle.lx_spec.specs.TrackedLevel.{tracked, cue_above};
-ghost use Rattle.lx_spec.specs.EditedShow.{cue_only, with_cue, with_moves, moves_for};
-ghost use Rattle.lx_edit.specs.Found.{FoundCue};
-ghost use Rattle.lx_edit.specs.PlanMeaning.{changed_show, Plans, PlansCues, CanPlace, IsAbove, KeepsAbove, SameOutside, covers, with_above};
-ghost use Rattle.lx_edit.specs.Kept.{DecidesOutside, decided, decided_by};
+ghost use Rattle.lx_edit.specs.Imports.{option_copied, HasCause, HasCauseOf, ValidCue, tracked, cue_above, cue_only, with_cue, with_moves};
+ghost use Rattle.lx_edit.specs.Imports.{moves_for, FoundCue, changed_show, Plans, PlansCues, CanPlace, IsAbove, KeepsAbove, SameOutside};
+ghost use Rattle.lx_edit.specs.Imports.{covers, with_above, DecidesOutside, decided, decided_by};
 
 use crate::absent::{all_channels, channel, the_cue};
 use crate::blocks::below;

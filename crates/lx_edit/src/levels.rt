@@ -1,13 +1,9 @@
 //! Edits of a cue's levels: channels set to a level, a group set, and channels released.
 
 ghost use Rattle.std.specs.Prelude.{◌≡◌, ℕ, IfOk, IfSome, IsTrue, true};
-ghost use Rattle.lx_io.specs.Causes.{HasCause, HasCauseOf};
-ghost use Rattle.lx_spec.specs.TrackedLevel.{cue_above, decides};
-ghost use Rattle.lx_spec.specs.SortedList.{has_entry};
+ghost use Rattle.lx_edit.specs.Imports.{HasCause, HasCauseOf, cue_above, decides, has_entry, InRange, IsLevel, part_for, without_moves};
+ghost use Rattle.lx_edit.specs.Imports.{Plans};
 ghost use Rattle.lx_base.specs.declared.TheConstants.{CHANNELS};
-ghost use Rattle.lx_spec.specs.Show.{InRange, IsLevel};
-ghost use Rattle.lx_spec.specs.EditedShow.{part_for, without_moves};
-ghost use Rattle.lx_edit.specs.PlanMeaning.{Plans};
 
 use crate::absent::{all_channels, the_channels, the_cue, the_given_part, the_group, the_moves};
 use crate::kept::place;

@@ -1,16 +1,10 @@
 //! Which channels see a difference where a cue is changed, added or taken out.
 
 ghost use Rattle.std.specs.Prelude.{◌≡◌, ◌≤◌, ◌-◌, ℕ, true, false, Some, None, IfSome, List, length, take, drop};
-ghost use Rattle.std.specs.Option.{option_copied, option_map_or, IsSomeAnd};
+ghost use Rattle.lx_edit.specs.Imports.{option_copied, option_map_or, IsSomeAnd, Valid, IsStrictlySorted, entry_at, cue_of, move_in};
+ghost use Rattle.lx_edit.specs.Imports.{asserts, tracked, level_of, RowsStandFor, has_chan, planned, covers, IsReady, SameOutside};
+ghost use Rattle.lx_edit.specs.Imports.{AreAmong, move_by, moves_of_cue, is_block, SameEntry, Grows};
 ghost use Rattle.lx_base.specs.declared.TheConstants.{CHANNELS};
-ghost use Rattle.lx_spec.specs.Show.{Valid};
-ghost use Rattle.lx_spec.specs.SortedList.{IsStrictlySorted, entry_at};
-ghost use Rattle.lx_spec.specs.TrackedLevel.{cue_of, move_in, asserts, tracked};
-ghost use Rattle.lx_sheet.specs.Rows.{level_of};
-ghost use Rattle.lx_sheet.specs.SheetMeaning.{RowsStandFor};
-ghost use Rattle.lx_edit.specs.ChanSet.{has_chan};
-ghost use Rattle.lx_edit.specs.PlanMeaning.{planned, covers, IsReady, SameOutside};
-ghost use Rattle.lx_edit.specs.CueChanges.{AreAmong, move_by, moves_of_cue, is_block, SameEntry, Grows};
 
 use crate::absent::channel;
 use crate::blocks::below;

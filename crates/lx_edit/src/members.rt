@@ -1,11 +1,8 @@
 //! Edits of the members of a group or a submaster, which is made where it is absent.
 
 ghost use Rattle.std.specs.Prelude.{◌≡◌, ℕ, ◌≤◌, IfOk, OnOk, unwrap_or};
-ghost use Rattle.std.specs.List.{AllByRecursion};
-ghost use Rattle.lx_io.specs.Causes.{HasCause, HasCauseOf};
-ghost use Rattle.lx_spec.specs.Show.{ValidMembers, ValidGroup, ValidSub};
-ghost use Rattle.lx_spec.specs.EditedShow.{with_members, set_or_new};
-ghost use Rattle.lx_edit.specs.PlanMeaning.{Plans};
+ghost use Rattle.lx_edit.specs.Imports.{AllByRecursion, HasCause, HasCauseOf, ValidMembers, ValidGroup, ValidSub, with_members, set_or_new};
+ghost use Rattle.lx_edit.specs.Imports.{Plans};
 
 use crate::absent::the_channels;
 use crate::moves::all_at;

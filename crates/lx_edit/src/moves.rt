@@ -1,14 +1,8 @@
 //! Moves placed into a cue, and the members from which they come.
 
 ghost use Rattle.std.specs.Prelude.{◌≡◌, ℕ, ◌≤◌, IfOk, IfSome, IsTrue, OnOk, map, ◌++◌};
-ghost use Rattle.std.specs.List.{AllByRecursion};
-ghost use Rattle.std.specs.Option.{IsSomeAnd};
-ghost use Rattle.lx_io.specs.Causes.{HasCause};
-ghost use Rattle.lx_spec.specs.SortedList.{entry_at, has_entry};
-ghost use Rattle.lx_spec.specs.Show.{ValidCue};
-ghost use Rattle.lx_spec.specs.EditedShow.{all_at, channels_in, in_proportion, part_for, with_moves, with_levels};
-ghost use Rattle.lx_edit.specs.Found.{Fits};
-ghost use Rattle.lx_edit.specs.Kept.{base_moves};
+ghost use Rattle.lx_edit.specs.Imports.{AllByRecursion, IsSomeAnd, HasCause, entry_at, has_entry, ValidCue, all_at, channels_in};
+ghost use Rattle.lx_edit.specs.Imports.{in_proportion, part_for, with_moves, with_levels, Fits, base_moves};
 
 use crate::absent::channel;
 use lx_base::{Chan, ChanRange, GroupNo, Level, PartNo};

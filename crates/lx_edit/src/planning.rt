@@ -1,10 +1,7 @@
 //! The plan of an edit.
 
 ghost use Rattle.std.specs.Prelude.{◌≡◌, Err, true};
-ghost use Rattle.lx_io.specs.Causes.{HasCauseOf};
-ghost use Rattle.lx_spec.specs.ValidEdit.{ValidEdit};
-ghost use Rattle.lx_spec.specs.WantedMemory.{takes_memory};
-ghost use Rattle.lx_edit.specs.PlanMeaning.{Plans};
+ghost use Rattle.lx_edit.specs.Imports.{HasCauseOf, ValidEdit, takes_memory, Plans};
 
 use crate::plans::Plan;
 use crate::{blocks, cue_edits, kept, levels, members, patch_edits};

@@ -1,3 +1,4 @@
 pub mod DimmerTable
 pub mod Slots
 pub mod FollowerChains
+pub mod Imports

@@ -1,3 +1,4 @@
 pub mod Valid
 pub mod Told
 pub mod QuietTicks
+pub mod Imports

@@ -1,13 +1,10 @@
 //! The playback's state: the moment, the base, the live runs and the pending follow.
 
-ghost use Rattle.std.specs.Prelude.{◌≡◌, ℕ, ◌+◌, ◌-◌, ◌/◌, ◌<◌, ◌≤◌, ◌==◌, [], ◌∷◌, None, min, not, reverse, length, nat_le, IfOk, IsTrue, IsFalse};
-ghost use Rattle.std.specs.List.{All, list_all};
-ghost use Rattle.lx_io.specs.Causes.{HasCause};
-ghost use Rattle.lx_spec.specs.Run.{extent};
-ghost use Rattle.lx_spec.specs.Playback.{at_opening, position_of, has_room, is_over, is_due, at_rest};
+ghost use Rattle.std.specs.Prelude.{◌≡◌, ℕ, ◌+◌, ◌-◌, ◌/◌, ◌<◌, ◌≤◌, ◌==◌, [], ◌∷◌, None, min, not, reverse, length, nat_le, IfOk, IsTrue};
+ghost use Rattle.std.specs.Prelude.{IsFalse};
+ghost use Rattle.lx_playback.specs.Imports.{All, list_all, HasCause, extent, at_opening, position_of, has_room, is_over, is_due, at_rest};
+ghost use Rattle.lx_playback.specs.Imports.{moments_later, TicksPass, IsStillAt, OldestFirst, ValidPlayback, ValidRun};
 ghost use Rattle.lx_base.specs.declared.TheConstants.{TICK_END, TICK_STEP};
-ghost use Rattle.lx_playback.specs.QuietTicks.{moments_later, TicksPass, IsStillAt};
-ghost use Rattle.lx_playback.specs.Valid.{OldestFirst, ValidPlayback, ValidRun};
 
 use crate::run::Run;
 use lx_base::{CueNo, Moment, RUNS, TICK_END, TICK_STEP};

@@ -4,3 +4,4 @@ pub mod Block
 pub mod After
 pub mod WordPlaces
 pub mod Marks
+pub mod Imports

@@ -1,11 +1,9 @@
 //! The block of rows: rows written and read, and columns mended.
 
 ghost use Rattle.std.specs.Prelude.{◌≡◌, ◌≢◌, ℕ, true, false, ◌+◌, ◌*◌, ◌<◌, ◌≤◌, IfSome, length, max, slice_get, take, vec_capacity};
+ghost use Rattle.lx_sheet.specs.Imports.{decides, AreApart, HasPlaces, IsBlock, own_rows, row_at_place, cell, cue_level, last_value};
+ghost use Rattle.lx_sheet.specs.Imports.{level_in_look, width, Tells, level_after, IsEnd, IsRight, RowsFollow, FillsRows, IsPassed, IsLeft};
 ghost use Rattle.lx_base.specs.declared.TheConstants.{CUES, CHANNELS};
-ghost use Rattle.lx_spec.specs.TrackedLevel.{decides};
-ghost use Rattle.lx_sheet.specs.Block.{AreApart, HasPlaces, IsBlock, own_rows, row_at_place, cell, cue_level, last_value, level_in_look, width};
-ghost use Rattle.lx_sheet.specs.Marks.{Tells};
-ghost use Rattle.lx_sheet.specs.After.{level_after, IsEnd, IsRight, RowsFollow, FillsRows, IsPassed, IsLeft};
 
 use crate::look::track;
 use crate::marks::Marks;

@@ -1,15 +1,10 @@
 //! A sheet follows the edits of its show. No call takes memory.
 
 ghost use Rattle.std.specs.Prelude.{◌≡◌, ◌≢◌, ℕ, ◌<◌, ◌≤◌, true, None, IfSome, is_some, length, map};
-ghost use Rattle.std.specs.Option.{option_map_or};
-ghost use Rattle.lx_spec.specs.SortedList.{IsStrictlySorted};
+ghost use Rattle.lx_sheet.specs.Imports.{option_map_or, IsStrictlySorted, cue_of, tracked, with_cue, without_cue, numbers_of, level_of};
+ghost use Rattle.lx_sheet.specs.Imports.{is_marked, count_under, IsEnd, IsMarked, IsMarkedAt, RowsStandFor, StandsFrom, StandsIn};
+ghost use Rattle.lx_sheet.specs.Imports.{cue_numbers, next_decision};
 ghost use Rattle.lx_spec.specs.Show.{Show as ShowData, Cue as CueData};
-ghost use Rattle.lx_spec.specs.TrackedLevel.{cue_of, tracked};
-ghost use Rattle.lx_spec.specs.EditedShow.{with_cue, without_cue};
-ghost use Rattle.lx_sheet.specs.Rows.{numbers_of, level_of, is_marked};
-ghost use Rattle.lx_sheet.specs.Block.{count_under};
-ghost use Rattle.lx_sheet.specs.After.{IsEnd};
-ghost use Rattle.lx_sheet.specs.SheetMeaning.{IsMarked, IsMarkedAt, RowsStandFor, StandsFrom, StandsIn, cue_numbers, next_decision};
 
 use crate::block::{fill_column, fill_from, fill_inserted, fill_removed, own_row, reach};
 use crate::marks::Marks;

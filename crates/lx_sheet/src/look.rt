@@ -1,12 +1,8 @@
 //! The levels of one cue, made from those of the cue before.
 
 ghost use Rattle.std.specs.Prelude.{◌≡◌, ℕ, length};
-ghost use Rattle.std.specs.List.{AllByRecursion};
-ghost use Rattle.std.specs.Option.{option_map_or};
-ghost use Rattle.lx_spec.specs.SortedList.{IsStrictlySorted, entry_at};
-ghost use Rattle.lx_spec.specs.Show.{InRange, ValidCue};
-ghost use Rattle.lx_sheet.specs.Block.{level_in_look};
-ghost use Rattle.lx_sheet.specs.After.{tracked_on};
+ghost use Rattle.lx_sheet.specs.Imports.{AllByRecursion, option_map_or, IsStrictlySorted, entry_at, InRange, ValidCue, level_in_look};
+ghost use Rattle.lx_sheet.specs.Imports.{tracked_on};
 
 use lx_base::Level;
 use lx_show::{Cue, Move};

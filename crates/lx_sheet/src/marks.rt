@@ -1,15 +1,11 @@
 //! Marks beside the rows: which channels the cue of a row may decide, so that a walk down a column asks only the cues
 //! that matter to it. No call but `open` takes memory.
 
-ghost use Rattle.std.specs.Prelude.{◌≡◌, ◌≢◌, ℕ, ◌+◌, ◌-◌, ◌*◌, ◌/◌, ◌%◌, ◌^◌, ◌<◌, ◌≤◌, true, IfOk, is_some, length, slice_index, vec_capacity};
-ghost use Rattle.std.specs.Int.{bit_at};
-ghost use Rattle.std.specs.List.{All};
-ghost use Rattle.lx_io.specs.Causes.{HasCause};
+ghost use Rattle.std.specs.Prelude.{◌≡◌, ◌≢◌, ℕ, ◌+◌, ◌-◌, ◌*◌, ◌/◌, ◌%◌, ◌^◌, ◌<◌, ◌≤◌, true, IfOk, is_some, length, slice_index};
+ghost use Rattle.std.specs.Prelude.{vec_capacity};
+ghost use Rattle.lx_sheet.specs.Imports.{bit_at, All, HasCause, IsStrictlySorted, has_entry, InRange, decides, IsBitOf, MovesWithin};
+ghost use Rattle.lx_sheet.specs.Imports.{bit_of, group_of, word_place, row_bit, words_over};
 ghost use Rattle.lx_base.specs.declared.TheConstants.{CUES, CHANNELS};
-ghost use Rattle.lx_spec.specs.SortedList.{IsStrictlySorted, has_entry};
-ghost use Rattle.lx_spec.specs.Show.{InRange};
-ghost use Rattle.lx_spec.specs.TrackedLevel.{decides};
-ghost use Rattle.lx_sheet.specs.WordPlaces.{IsBitOf, MovesWithin, bit_of, group_of, word_place, row_bit, words_over};
 
 use lx_base::{CUES, Chan};
 use lx_io::Heap;

@@ -1,12 +1,9 @@
 //! A sheet is filled in whole, as at the opening: the rows of all cues and their marks, in one pass over the moves. No call takes memory.
 
 ghost use Rattle.std.specs.Prelude.{◌≡◌, ℕ, ◌+◌, ◌*◌, ◌<◌, ◌≤◌, get_or, length, max, take, vec_capacity};
-ghost use Rattle.std.specs.List.{AllByRecursion};
+ghost use Rattle.lx_sheet.specs.Imports.{AllByRecursion, ValidCue, cell, width, IsGrown, IsMarkTable, IsMarkedFor, IsReached, level_after};
 ghost use Rattle.lx_base.specs.declared.TheConstants.{CUES, CHANNELS};
-ghost use Rattle.lx_spec.specs.Show.{Cue as CueData, ValidCue};
-ghost use Rattle.lx_sheet.specs.Block.{cell, width};
-ghost use Rattle.lx_sheet.specs.Marks.{IsGrown, IsMarkTable, IsMarkedFor, IsReached};
-ghost use Rattle.lx_sheet.specs.After.{level_after};
+ghost use Rattle.lx_spec.specs.Show.{Cue as CueData};
 
 use crate::block::{reach, write_row};
 use crate::look::track;

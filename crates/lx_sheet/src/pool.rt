@@ -1,11 +1,8 @@
 //! The order of the cues, each with the row that is its own, and the rows that are free. No call takes memory.
 
 ghost use Rattle.std.specs.Prelude.{◌≡◌, ◌≤◌, ◌-◌, ℕ, None, IfSome, length, map, insert, remove, reverse, vec_capacity};
-ghost use Rattle.std.specs.List.{range_with_len};
+ghost use Rattle.lx_sheet.specs.Imports.{range_with_len, entry_at, StandsAt, GoesAt, IsOrder, placed_from, row_at_place};
 ghost use Rattle.lx_base.specs.declared.TheConstants.{CUES};
-ghost use Rattle.lx_spec.specs.SortedList.{entry_at};
-ghost use Rattle.lx_show.specs.Indexes.{StandsAt, GoesAt};
-ghost use Rattle.lx_sheet.specs.Block.{IsOrder, placed_from, row_at_place};
 
 use crate::sheet::Place;
 use lx_base::{CUES, CueNo};
