@@ -4,17 +4,20 @@ ghost use Rattle.std.specs.Prelude.{◌≡◌, ℕ, ◌+◌, ◌<◌, ◌≤◌,
 ghost use Rattle.std.specs.List.{All};
 ghost use Rattle.lx_base.specs.declared.TheConstants.{RUNS, TICK_END};
 ghost use Rattle.lx_spec.specs.Show.{Show as ShowData};
+ghost use Rattle.lx_spec.specs.TrackedLevel.{tracked};
+ghost use Rattle.lx_spec.specs.Run.{entry_extent};
 ghost use Rattle.lx_spec.specs.Level.{level};
 ghost use Rattle.lx_sheet.specs.SheetMeaning.{RowsStandFor};
 ghost use Rattle.lx_playback.specs.Valid.{OldestFirst, ValidRun};
 ghost use Rattle.lx_levels.specs.Stacks.{stack_level, no_stack};
-ghost use Rattle.lx_levels.specs.RunsInTurn.{EachAct, IsGround, IsValid};
+ghost use Rattle.lx_levels.specs.Acts.{IsKnown, IsValid};
+ghost use Rattle.lx_levels.specs.RunsInTurn.{EachAct, IsGround};
 
-use crate::channel::{is_over, level_there, push_timed, times_for};
+use crate::channel::{level_there, push_act, times_for};
 use crate::hints::{Hint, acts};
 use crate::racks::Racks;
 use lx_base::{Chan, CueNo, Level, Moment};
-use lx_playback::{PartTimes, Run};
+use lx_playback::{PartTimes, Run, entry_extent};
 use lx_sheet::Sheet;
 use lx_show::Show;
 
@@ -27,13 +30,23 @@ pub(crate) struct Act {
     pub(crate) entry: PartTimes,
 }
 
-/// What the oldest runs leave on a channel: its level from a moment on, whatever was before.
+impl Act {
+    /// The run has brought the channel to its target by the moment, whichever way it goes.
+    #[inline(always)]
+    fn is_over(&self, m: Moment) -> bool
+        requires { IsValid self.now }
+        ensures { result ≡ true → self.now.start + entry_extent self.now.entry ≤ m }
+    {
+        self.start + entry_extent(&self.entry) <= m
+    }
+}
+
+/// What the oldest runs leave on a channel: its level from some moment on, whatever was before.
 #[derive(Clone, Copy)]
 pub(crate) struct Ground {
     /// How many of the oldest runs.
     pub(crate) first: usize,
     pub(crate) level: Level,
-    pub(crate) since: Moment,
 }
 
 /// The newest runs over which the channel's level has to be followed, for the moments from the one given on, and
@@ -57,41 +70,57 @@ pub(crate) fn ground_of(
     requires hints { length hints.old ≡ RUNS }
     requires acts { length acts_of.old ≡ RUNS }
     ensures within { result.first ≤ length live.now }
-    ensures ground { IsGround show.now base live.now c from result.first result.level result.since acts_of.new }
+    ensures ground { IsGround show.now base live.now c from result.first result.level acts_of.new }
     ensures valid { EachAct IsValid live.now result.first acts_of.new }
 {
     let mut since = from;
     let mut target = level_there(show, sheet, base, live, c, hints);
     let mut left = live.len();
     while left > 0 {
-        let run = &live[left - 1];
-        let looks = level_there(show, sheet, base, &live[..left - 1], c, hints);
-        if acts(show, run, c, looks, target, &mut hints[left - 1]) {
-            let entry = times_for(show, run, c);
-            if is_over(run.start, &entry, since) {
+        let i = left - 1;
+        let looks = level_there(show, sheet, base, &live[..i], c, hints);
+        let act = act_of(show, &live[i], c, looks, target, &mut hints[i]);
+        if let Some(act) = act {
+            if act.is_over(since) {
                 return Ground {
                     first: left,
                     level: target,
-                    since,
                 };
             }
-            since = run.start;
-            acts_of[left - 1] = Some(Act {
-                start: run.start,
-                target,
-                entry,
-            });
-        } else {
-            acts_of[left - 1] = None;
+            since = act.start;
         }
+        acts_of[i] = act;
         target = looks;
-        left -= 1;
+        left = i;
     }
     Ground {
         first: 0,
         level: target,
-        since,
     }
+}
+
+/// What a run does to the channel, which is to come from one level to another by it: `None` where it doesn't act.
+#[inline(always)]
+pub(crate) fn act_of(
+    show: &Show,
+    run: &Run,
+    c: Chan,
+    looks: Level,
+    target: Level,
+    hint: &mut Hint,
+) -> Option<Act>
+    requires target { target ≡ tracked show.now run.now.cue c }
+    requires run { ValidRun TICK_END run.now }
+    ensures known { (before : ℕ) → looks ≡ tracked show.now before c → IsKnown show.now before run.now c result }
+{
+    if !acts(show, run, c, looks, target, hint) {
+        return None;
+    }
+    Some(Act {
+        start: run.start,
+        target,
+        entry: times_for(show, run, c),
+    })
 }
 
 /// Makes the stack at a place again: the fades of the runs that are left, over what the oldest ones leave, by what each of
@@ -110,7 +139,7 @@ pub(crate) fn replay(
     requires within { oldest.first ≤ length live.now }
     requires valid { EachAct IsValid live.now oldest.first acts_of.now }
     ensures level { (show : ShowData) (base c from : ℕ)
-        → IsGround show base live.now c from oldest.first oldest.level oldest.since acts_of.now
+        → IsGround show base live.now c from oldest.first oldest.level acts_of.now
         → (m : ℕ) → from ≤ m → stack_level (slice_index_or stacks.new k no_stack) m ≡ level show base (reverse live.now) c m }
     ensures few { length (slice_index_or stacks.new k no_stack).fades ≤ length live.now }
     ensures others { stacks.new ≡ slice_set stacks.old k (slice_index_or stacks.new k no_stack) }
@@ -118,7 +147,7 @@ pub(crate) fn replay(
     stacks.restart(k, oldest.level);
     for i in oldest.first..live.len() {
         if let Some(act) = &acts_of[i] {
-            push_timed(stacks, k, act.start, &act.entry, act.target);
+            push_act(stacks, k, act);
         }
     }
 }
