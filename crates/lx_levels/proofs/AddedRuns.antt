@@ -21,9 +21,9 @@ added_next {show} {p} {k} {before} {kept} {after} added elsewhere here = record 
 }
 
 -- and so do many in a row, whose stacks stay
-pub added_row : {show : Show} {p : Playback} {k n : ℕ} {before kept : KeptLevels} → IsAdded show p k before kept
+pub added_row : {show : Show} {p : Playback} {k : ℕ} {before kept : KeptLevels} (n : ℕ) → IsAdded show p k before kept
     → ((i : ℕ) → k ≤ i → i < k + n → StackStandsAt show p kept i) → IsAdded show p (k + n) before kept
-added_row {show} {p} {k} added here = record {
+added_row {k = k} n added here = record {
   moment = added.moment;
   reach = added.reach;
   done = λ i below. elim (cases_lt i k) [
@@ -69,7 +69,7 @@ pub same_run_copied : (run last : Run) → Some run ≡ Some last → run ≡ la
 same_run_copied run last same = cc
 
 -- a channel whose stack stood for the playback before its last run, and stands for it now
-module _ {show : Show} {p : Playback} {before kept : KeptLevels} {k : ℕ} (stood : StandsBefore show p before) (within : k < show.channels)
+module _ {show : Show} {p : Playback} {before : KeptLevels} (kept : KeptLevels) {k : ℕ} (stood : StandsBefore show p before) (within : k < show.channels)
     (left : kept_stack kept k ≡ kept_stack before k) where
   old : StackStandsAt show (record p { live = stood.older }) kept k
   old = same_stack show (record p { live = stood.older }) k before kept left (stood.stands.each k within)

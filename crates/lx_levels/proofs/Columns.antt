@@ -1,6 +1,6 @@
 -- Stacks laid out plane by plane.
 use Rattle.lx_levels.proofs.Imports.{◌≡◌, ◌≢◌, ◌⊎◌, ℕ, zero, suc, ◌+◌, ◌-◌, ◌*◌, ◌<◌, ◌≤◌, List, [], ◌∷◌, drop}
-use Rattle.lx_levels.proofs.Imports.{length, min, arith, get_or, set, replicate, refl, ◌∙◌, ap, sym, subst, inl, inr, All, length-set, cases_lt}
+use Rattle.lx_levels.proofs.Imports.{length, min, arith, get_or, set, replicate, refl, ◌∙◌, ap, sym, subst, inl, inr, All, length-set, cases_lt, get_or-set_other}
 use Rattle.lx_levels.proofs.Imports.{get_or_read, same_lists, get_or_past, get_or-replicate, Fade}
 use Rattle.lx_levels.proofs.Imports.{pushed, stack_column, no_fade, drop-stack_column, in_block, read_is, NEVER, Stack, no_stack}
 use Rattle.std.proofs.lemmas.List.FromFn.{length-map-range_with_len, get_or-map-range_with_len}
@@ -19,12 +19,13 @@ column_same new old channels k zero same = refl
 column_same new old channels k (suc n) same =
     rw (same n (omega arith), column_same new old channels k n (λ j less. same j (omega arith))) refl
 
--- of two that agree but at one place, which isn't in the column
-pub column_apart : (new old : List Fade) (channels k kept i n : ℕ) → k < channels
-    → ((j : ℕ) → j ≢ kept * channels + k → get_or new j no_fade ≡ get_or old j no_fade) → i < channels
-    → ((j : ℕ) → j < n → j ≡ kept → i ≢ k) → stack_column new channels i n ≡ stack_column old channels i n
-column_apart new old channels k kept i n within same less apart = column_same new old channels i n (λ j below. same (j * channels + i)
-    (λ e. let both = places_apart channels j kept i k less within e in apart j below both.0 both.1))
+-- where a fade is written elsewhere, over a block whose entries are those of the one before
+pub column_apart : (old grown : List Fade) (channels k kept : ℕ) (fade : Fade) (i n : ℕ) → k < channels
+    → ((j : ℕ) → get_or grown j no_fade ≡ get_or old j no_fade) → i < channels → ((j : ℕ) → j < n → j ≡ kept → i ≢ k)
+    → stack_column (set grown (kept * channels + k) fade) channels i n ≡ stack_column old channels i n
+column_apart old grown channels k kept fade i n within same less apart = column_same (set grown (kept * channels + k) fade) old channels i n
+    (λ j below. get_or-set_other grown (kept * channels + k) (j * channels + i) fade no_fade (λ e.
+    let both = places_apart channels j kept i k less within e in apart j below both.0 both.1) ∙ same (j * channels + i))
 
 pub length-stacks_of : (channels : ℕ) (feet : List Foot) (block : List Fade) → length (stacks_of channels feet block) ≡ channels
 length-stacks_of channels feet block = length-map-range_with_len (stack_at_place channels feet block) 0 channels
@@ -91,6 +92,7 @@ pub record Reads (r : Inside) (racks : List Stack) (lent : List Fade) (k : ℕ) 
   pub within : k < r.channels
   pub reach : foot.count * r.channels ≤ length lent
   pub stack : get_or racks k no_stack ≡ stack_on r.channels foot lent k
+  pub long : length (get_or racks k no_stack).fades ≡ foot.count
 
 pub reads : (r : Inside) {racks : List Stack} {lent : List Fade} {k room : ℕ} {foot : Foot}
     → stacks_of r.channels r.feet.items r.fades.items ≡ racks → IsLaidOut r.channels r.feet.items r.fades.items room → k < length racks
@@ -103,17 +105,18 @@ reads r {racks} {lent} {k} {room} {foot} is laid in_racks foot_is same =
       within = within;
       reach = rw (here, same) (laid.each k within).reach;
       stack = rw (here, same) (stack_there r k is within);
+      long = rw (here, stack_there r k is within) (length-stack_column r.fades.items r.channels k (foot_at r.feet.items k).count);
     }
 
--- what is kept of a column below a new fade
-pub kept_below : (block : List Fade) (channels k kept : ℕ) {foot : Foot} {stack : Stack} → stack ≡ stack_on channels foot block k
-    → kept ≤ foot.count → drop (length stack.fades - kept) stack.fades ≡ stack_column block channels k kept
-kept_below block channels k kept {foot} is le =
-    rw (is, length-stack_column block channels k foot.count) (drop-stack_column block channels k foot.count kept le)
+module _ {r : Inside} {racks : List Stack} {lent : List Fade} {k : ℕ} {foot : Foot} (read : Reads r racks lent k foot) where
+  -- what is kept of the column below a new fade
+  pub kept_below : (kept : ℕ) → kept ≤ foot.count
+      → drop (length (get_or racks k no_stack).fades - kept) (get_or racks k no_stack).fades ≡ stack_column lent r.channels k kept
+  kept_below kept le = rw (read.stack, length-stack_column lent r.channels k foot.count) (drop-stack_column lent r.channels k foot.count kept le)
 
--- a pushed fade gives the level of one over the stack
-pub pushed_here : (block : List Fade) (channels k : ℕ) {kept s time target : ℕ} {foot : Foot} {fade : Fade} {stack : Stack}
-    → stack ≡ stack_on channels foot block k → kept ≤ foot.count
-    → fade ∷ stack_column block channels k kept ≡ pushed foot.bottom (stack_column block channels k foot.count) s time target
-    → fade ∷ drop (length stack.fades - kept) stack.fades ≡ pushed stack.bottom stack.fades s time target
-pushed_here block channels k {kept} is le put = rw (kept_below block channels k kept is le, is) put
+  -- a pushed fade gives the level of one over the stack
+  pub pushed_here : (kept : ℕ) {s time target : ℕ} {fade : Fade} → kept ≤ foot.count
+      → fade ∷ stack_column lent r.channels k kept ≡ pushed foot.bottom (stack_column lent r.channels k foot.count) s time target
+      → fade ∷ drop (length (get_or racks k no_stack).fades - kept) (get_or racks k no_stack).fades
+      ≡ pushed (get_or racks k no_stack).bottom (get_or racks k no_stack).fades s time target
+  pushed_here kept le put = rw (kept_below kept le, read.stack) put

@@ -1,17 +1,30 @@
 -- Runs that are followed one after another.
 use Rattle.lx_levels.proofs.Imports.{◌≡◌, ℕ, ◌+◌, ◌<◌, ◌≤◌, List, [], ◌∷◌, ◌++◌, length, take, reverse, Option}
 use Rattle.lx_levels.proofs.Imports.{Some, None, IfSome, slice_set, arith, get_or, ap, sym, subst, ◌∙◌, add-one, get_or_default}
-use Rattle.lx_levels.proofs.Imports.{common_steps, Show, tracked, Run, entry_extent, level, last_cue, refl}
-use Rattle.lx_levels.proofs.Imports.{OldestFirst, Stack, stack_level, Act, act_over, IsReplayed, IsGround, IsKnown, AreKnown, EachAct}
+use Rattle.lx_levels.proofs.Imports.{common_steps, Show, tracked, Run, level, last_cue, refl}
+use Rattle.lx_levels.proofs.Imports.{OldestFirst, Stack, stack_level, Act, act_over, IsReplayed, IsGround, IsKnown, IsOf, IsValid, AreKnown, EachAct, false}
+use Rattle.lx_levels.proofs.Imports.{option_map_or}
+use Rattle.lx_levels.specs.Acts.{IsOver}
 use Rattle.std.proofs.Math.Seq.{take-suc}
 use Rattle.lx_levels.proofs.HiddenRuns.{level_hidden, level_passed, level_pushed}
 use Rattle.lx_levels.proofs.Written.{after_set}
 
 -- what each act has, each has when one more is written down
-pub each_more : (P : Act → Type 0) {live : List Run} {n i : ℕ} {known : List (Option Act)} (new : Option Act)
+pub each_more : (P : Act → Type 0) (live : List Run) {n i : ℕ} (known : List (Option Act)) (new : Option Act)
     → EachAct P live n known → n ≡ i + 1 → IfSome new P → i < length known → EachAct P live i (slice_set known i new)
-each_more P {live} {n} {i} {known} new others next this within = λ j least below.
+each_more P live {n} {i} known new others next this within = λ j least below.
     after_set (λ _ o. IfSome o P) known i new None j within this (λ apart. others j (omega (arith, least, apart, next)) below)
+
+valid_of : (show : Show) (run : Run) (c : ℕ) (o : Option Act) → IfSome o (IsOf show run c) → IfSome o IsValid
+valid_of show run c None of = tt
+valid_of show run c (Some a) of = of.valid
+
+abbrev pub no_run : Run
+no_run = record { start = 0; cue = 0; parts = []; whole = false }
+
+pub all_valid : (show : Show) (base : ℕ) (live : List Run) (c n : ℕ) (known : List (Option Act)) → AreKnown show base live c n known
+    → EachAct IsValid live n known
+all_valid show base live c n known all = λ i least less. valid_of show (get_or live i no_run) c (get_or known i None) (all i no_run least less).act
 
 act_later : {show : Show} {before c since : ℕ} {run : Run} (o : Option Act) → IsKnown show before run c o → since ≤ run.start
     → IfSome o (λ a. since ≤ a.start)
@@ -37,23 +50,36 @@ module _ (show : Show) (base : ℕ) (live : List Run) (c : ℕ) {n i : ℕ} {run
   target_of at = at ∙ ap (λ (runs : List Run). tracked show (last_cue base runs) c) more
 
   -- the runs that act from the next place on start no earlier than the run
-  pub later_than : {known : List (Option Act)} → OldestFirst live → AreKnown show base live c n known
+  pub later_than : (known : List (Option Act)) → OldestFirst live → AreKnown show base live c n known
       → EachAct (λ a. run.start ≤ a.start) live n known
-  later_than {known} order all = λ j least below.
+  later_than known order all = λ j least below.
       let first : (get_or live i run).start ≤ (get_or live j run).start = order i j run (omega (arith, least, next)) below in
       act_later (get_or known j None) (all j run least below) (omega (arith, first, ap (λ (r : Run). r.start) is))
 
   -- the run hides what is older
-  pub hidden : {act : Act} {since target : ℕ} → target ≡ tracked show (last_cue base (reverse (take n live))) c
-      → IsKnown show (last_cue base older) run c (Some act) → act.start + entry_extent act.entry ≤ since
-      → (m : ℕ) → since ≤ m → target ≡ level show base (reverse (take n live)) c m
-  hidden {act} at known over = λ m late. target_of at ∙ sym known.act.target ∙ level_hidden base older m known (omega (arith, over, late))
+  pub hidden : (act : Option Act) {since target : ℕ} → target ≡ tracked show (last_cue base (reverse (take n live))) c
+      → IsKnown show (last_cue base older) run c act → IsOver since act → (m : ℕ) → since ≤ m → target ≡ level show base (reverse (take n live)) c m
+  hidden None at known over = absurd over
+  hidden (Some act) at known over = λ m late. target_of at ∙ sym known.act.target ∙ level_hidden base older m known (omega (arith, over, late))
       ∙ ap (λ (runs : List Run). level show base runs c m) (sym more)
 
+  -- since when it has to be followed, by what the run does
+  pub later_more : (known : List (Option Act)) (act : Option Act) (since : ℕ) {s : ℕ} → OldestFirst live → AreKnown show base live c n known
+      → IsKnown show (last_cue base older) run c act → EachAct (λ a. since ≤ a.start) live n known
+      → s ≡ option_map_or (λ a. a.start) act since → i < length known → EachAct (λ a. s ≤ a.start) live i (slice_set known i act)
+  later_more known None since order all this later s_is within = each_more (λ a. _ ≤ a.start) live known None (rw s_is later) next tt within
+  later_more known (Some act) since order all this later s_is within =
+      each_more (λ a. _ ≤ a.start) live known (Some act) (rw (s_is, this.act.start) (later_than known order all)) next (omega arith) within
+
+  pub begun_more : (act : Option Act) {since s from : ℕ} → IsKnown show (last_cue base older) run c act
+      → s ≡ option_map_or (λ a. a.start) act since → since ≤ from → run.start ≤ from → s ≤ from
+  begun_more None this s_is begun started = omega arith
+  begun_more (Some act) this s_is begun started = omega (arith, this.act.start)
+
   -- what one more run does is written down
-  pub known_more : {known : List (Option Act)} (new : Option Act) → AreKnown show base live c n known
+  pub known_more : (known : List (Option Act)) (new : Option Act) → AreKnown show base live c n known
       → IsKnown show (last_cue base older) run c new → i < length known → AreKnown show base live c i (slice_set known i new)
-  known_more {known} new others this within = λ j d least below.
+  known_more known new others this within = λ j d least below.
       after_set (λ k o. IsKnown show (last_cue base (reverse (take k live))) (get_or live k d) c o) known i new None j within
       (subst (λ (r : Run). IsKnown show (last_cue base older) r c new) (is ∙ get_or_default live i run d lt) this)
       (λ apart. others j d (omega (arith, least, apart, next)) below)
@@ -80,7 +106,7 @@ module _ {show : Show} {base : ℕ} {live : List Run} {c from first bottom i : �
         gives = λ m late. pushed m (omega (arith, on.act.start, late))
             ∙ level_pushed base (reverse (take i live)) m (stack_level stack) on so_far.gives (omega (arith, later, on.act.start))
             (omega (arith, later, on.act.start, late)) ∙ one_more m;
-        later = later_than show base live c refl lt is order (λ j d above below. ground.known_are j d (omega (arith, above)) below);
+        later = later_than show base live c refl lt is known order (λ j d above below. ground.known_are j d (omega (arith, above)) below);
         begun = omega (arith, ground.started i run lt, ap (λ (r : Run). r.start) is);
       }
 

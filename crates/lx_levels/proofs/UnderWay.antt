@@ -2,7 +2,7 @@
 use Rattle.lx_levels.proofs.Imports.{◌≡◌, ◌≢◌, ℕ, ◌+◌, ◌<◌, ◌≤◌, List, length, arith, get_or, set, get_or-set_other, get_or-set_same}
 use Rattle.lx_levels.proofs.Imports.{replicate, lit<, refl, ◌∙◌, ap, sym, subst, inl, inr, length-replicate, get_or-replicate, CHANNELS, length-set}
 use Rattle.lx_levels.proofs.Imports.{cases_eq, NEVER, Stack, stack_level, no_stack, Governs, StaysUntil, no_current, Place, place_of, IsHeld, IsTold}
-use Rattle.lx_levels.proofs.Imports.{LevelsReach, IsRight, IsRightAt, IsRightBut, IsWritten, IsAdvanced, Motion}
+use Rattle.lx_levels.proofs.Imports.{LevelsReach, IsRight, IsRightAt, IsRightBut, IsWritten, IsAdvanced, Motion, IsElsewhere}
 
 -- the level that is kept is that of the stack
 pub level_now : {m : ℕ} {stack : Stack} {place : Place} → IsTold m stack place → place.level ≡ stack_level stack m
@@ -73,9 +73,9 @@ module _ {k : ℕ} {before after : Motion} (is : IsWritten k before after) where
   }
 
 -- what is right stays so but for a channel whose stack is changed
-pub right_but : {m k : ℕ} {stacks new : List Stack} {motion : Motion} {stack : Stack} → IsRightAt m stacks motion → k < length stacks
+pub right_but : {m k : ℕ} {stacks new : List Stack} {motion : Motion} (stack : Stack) → IsRightAt m stacks motion → k < length stacks
     → new ≡ set stacks k stack → IsRightBut m k new motion
-right_but {m} {k} {stacks} {new} {motion} {stack} right within is =
+right_but {m} {k} {stacks} {new} {motion} stack right within is =
     let long : length stacks ≡ length new = sym (ap length is ∙ length-set stacks k stack) in
     record {
       reaches = subst (λ n. LevelsReach n motion) long right.reaches;
@@ -88,6 +88,14 @@ right_but {m} {k} {stacks} {new} {motion} {stack} right within is =
         due = (right.each i (omega (arith, less, long))).due;
       };
     }
+
+pub elsewhere : {k moment : ℕ} {stacks new : List Stack} (stack : Stack) → new ≡ set stacks k stack
+    → IsElsewhere k (record { moment = moment; stacks = stacks }) (record { moment = moment; stacks = new })
+elsewhere {k} {moment} {stacks} stack is = record {
+  moment = refl;
+  reach = ap length is ∙ length-set stacks k stack;
+  others = λ i other. ap (λ (ss : List Stack). get_or ss i no_stack) is ∙ get_or-set_other stacks k i stack no_stack other;
+}
 
 -- at the opening each channel is still at 0
 pub opened_right : {stacks : List Stack} {motion : Motion} {n : ℕ} → LevelsReach n motion → length stacks ≡ n

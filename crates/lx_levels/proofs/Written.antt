@@ -15,7 +15,7 @@ after_set P xs k x d i within here other = elim (cases_eq i k) [
 ]
 
 -- what was written at a place is there
-module _ {A : Type 0} {old new : List A} {k : ℕ} {x : A} (d : A) (within : k < length old) (is : new ≡ set old k x) where
+module _ {A : Type 0} (old : List A) {new : List A} (k : ℕ) (x d : A) (within : k < length old) (is : new ≡ set old k x) where
   pub set_here : get_or new k d ≡ x
   set_here = ap (λ (xs : List A). get_or xs k d) is ∙ get_or-set_same old k x d within
 
@@ -23,5 +23,5 @@ module _ {A : Type 0} {old new : List A} {k : ℕ} {x : A} (d : A) (within : k <
   set_there = is ∙ ap (set old k) (sym set_here)
 
 -- a place is written again
-pub set_again : {A : Type 0} {old now new : List A} {k : ℕ} {x y : A} → now ≡ set old k x → new ≡ set now k y → new ≡ set old k y
-set_again {A} {old} {now} {new} {k} {x} {y} is next = next ∙ ap (λ (xs : List A). set xs k y) is ∙ set-set old k x y
+pub set_again : {A : Type 0} (old : List A) {now new : List A} (k : ℕ) (x y : A) → now ≡ set old k x → new ≡ set now k y → new ≡ set old k y
+set_again old k x y is next = next ∙ ap (λ xs. set xs k y) is ∙ set-set old k x y

@@ -1,9 +1,9 @@
 -- What runs do to a channel on which they act.
-use Rattle.std.specs.Prelude.{◌≡◌, ℕ, ◌+◌, ◌≤◌, is_some, nat_le, Option, IfSome, if◌then◌else◌}
+use Rattle.std.specs.Prelude.{◌≡◌, ℕ, ◌+◌, ◌≤◌, is_some, nat_le, Option, None, Some, IfSome, if◌then◌else◌}
 use Rattle.lx_base.specs.declared.TheConstants.{TICK_END}
 use Rattle.lx_spec.specs.Show.{Show}
 use Rattle.lx_spec.specs.TrackedLevel.{tracked}
-use Rattle.lx_spec.specs.Run.{Run, acts, entry_for}
+use Rattle.lx_spec.specs.Run.{Run, acts, entry_extent, entry_for}
 use Rattle.lx_spec.specs.Level.{fade_over}
 use Rattle.lx_playback.specs.Valid.{ValidTimes}
 use Rattle.lx_levels.specs.declared.replay.Act.{Act}
@@ -19,6 +19,11 @@ act_over act before m =
 pub record IsValid (act : Act) : Type 0 where
   pub start : act.start ≤ TICK_END
   pub times : ValidTimes act.entry
+
+-- by a moment the channel is at the act's target, whichever way it goes
+abbrev pub IsOver : ℕ → Option Act → Type 0
+IsOver m None = ⊥
+IsOver m (Some act) = act.start + entry_extent act.entry ≤ m
 
 -- the act of this run
 pub record IsOf (show : Show) (run : Run) (c : ℕ) (act : Act) : Type 0 where

@@ -143,7 +143,14 @@ impl Racks {
         ensures wake { m < result.wake }
     {
         let foot = self.feet[k];
-        governing_in(&self.fades, self.channels, k, foot.count as usize, foot.bottom, m)
+        governing_in(
+            &self.fades,
+            self.channels,
+            k,
+            foot.count as usize,
+            foot.bottom,
+            m,
+        )
     }
 }
 

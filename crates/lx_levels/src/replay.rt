@@ -1,16 +1,16 @@
 //! The fades of one channel over runs that started one after another.
 
-ghost use Rattle.std.specs.Prelude.{◌≡◌, ℕ, ◌+◌, ◌<◌, ◌≤◌, true, length, reverse, slice_index_or, slice_set};
+ghost use Rattle.std.specs.Prelude.{◌≡◌, ℕ, ◌+◌, ◌<◌, ◌≤◌, true, length, reverse, slice_index_or, slice_set, IfSome, None};
+ghost use Rattle.std.specs.Option.{option_map_or};
 ghost use Rattle.std.specs.List.{All};
 ghost use Rattle.lx_base.specs.declared.TheConstants.{RUNS, TICK_END};
 ghost use Rattle.lx_spec.specs.Show.{Show as ShowData};
 ghost use Rattle.lx_spec.specs.TrackedLevel.{tracked};
-ghost use Rattle.lx_spec.specs.Run.{entry_extent};
 ghost use Rattle.lx_spec.specs.Level.{level};
 ghost use Rattle.lx_sheet.specs.SheetMeaning.{RowsStandFor};
 ghost use Rattle.lx_playback.specs.Valid.{OldestFirst, ValidRun};
 ghost use Rattle.lx_levels.specs.Stacks.{stack_level, no_stack};
-ghost use Rattle.lx_levels.specs.Acts.{IsKnown, IsValid};
+ghost use Rattle.lx_levels.specs.Acts.{IsKnown, IsOver, IsValid};
 ghost use Rattle.lx_levels.specs.RunsInTurn.{EachAct, IsGround};
 
 use crate::channel::{level_there, push_act, times_for};
@@ -28,17 +28,6 @@ pub(crate) struct Act {
     pub(crate) start: Moment,
     pub(crate) target: Level,
     pub(crate) entry: PartTimes,
-}
-
-impl Act {
-    /// The run has brought the channel to its target by the moment, whichever way it goes.
-    #[inline(always)]
-    fn is_over(&self, m: Moment) -> bool
-        requires { IsValid self.now }
-        ensures { result ≡ true → self.now.start + entry_extent self.now.entry ≤ m }
-    {
-        self.start + entry_extent(&self.entry) <= m
-    }
 }
 
 /// What the oldest runs leave on a channel: its level from some moment on, whatever was before.
@@ -80,15 +69,13 @@ pub(crate) fn ground_of(
         let i = left - 1;
         let looks = level_there(show, sheet, base, &live[..i], c, hints);
         let act = act_of(show, &live[i], c, looks, target, &mut hints[i]);
-        if let Some(act) = act {
-            if act.is_over(since) {
-                return Ground {
-                    first: left,
-                    level: target,
-                };
-            }
-            since = act.start;
-        }
+        let Some(earlier) = since_before(&act, since) else {
+            return Ground {
+                first: left,
+                level: target,
+            };
+        };
+        since = earlier;
         acts_of[i] = act;
         target = looks;
         left = i;
@@ -96,6 +83,21 @@ pub(crate) fn ground_of(
     Ground {
         first: 0,
         level: target,
+    }
+}
+
+/// Since when a channel has to be followed over the runs older than one that does this to it: `None` where the run has brought it to its
+/// target by then, whichever way it goes.
+#[inline(always)]
+fn since_before(act: &Option<Act>, since: Moment) -> Option<Moment>
+    requires { IfSome act.now IsValid }
+    ensures over { result ≡ None → IsOver since act.now }
+    ensures since { IfSome result (λ s. s ≡ option_map_or (λ a. a.start) act.now since) }
+{
+    match act {
+        Some(act) if act.start + entry_extent(&act.entry) <= since => None,
+        Some(act) => Some(act.start),
+        None => Some(since),
     }
 }
 
@@ -111,6 +113,8 @@ pub(crate) fn act_of(
 ) -> Option<Act>
     requires target { target ≡ tracked show.now run.now.cue c }
     requires run { ValidRun TICK_END run.now }
+    ensures valid { IfSome result IsValid }
+    ensures start { IfSome result (λ a. a.start ≡ run.now.start) }
     ensures known { (before : ℕ) → looks ≡ tracked show.now before c → IsKnown show.now before run.now c result }
 {
     if !acts(show, run, c, looks, target, hint) {

@@ -2,17 +2,17 @@ use Rattle.lx_levels.proofs.Imports.{◌≡◌, ◌+◌, ◌<◌, ◌≤◌, ◌
 use Rattle.lx_levels.proofs.Imports.{subst, arith, Option, None, length-set, get_or_default, common_steps, Run, level, Stack, stack_level, no_stack, Act}
 use Rattle.lx_levels.proofs.Imports.{IsReplayed}
 use Rattle.lx_levels.proofs.Written.{set_again, set_here, set_there}
-use Rattle.lx_levels.proofs.RunsInTurn.{replayed_on, replayed_off}
+use Rattle.lx_levels.proofs.RunsInTurn.{no_run, replayed_on, replayed_off}
 use Rattle.lx_levels.proofs.replay.replay.Goals as goal
 use Rattle.lx_levels.proofs.replay.replay.Goals.{in-Some, in_default}
 
 pub loop-i-init : goal.loop-i-init
 loop-i-init c =
-    let here = set_here no_stack c.requires.place c.restart.ensures in
+    let here = set_here c.args.stacks.now c.args.k _ no_stack c.requires.place c.restart.ensures in
     record {
       gives = λ show base x from ground. rw here ground.stays;
       few = omega (arith, ap (λ (s : Stack). length s.fades) here);
-      others = set_there no_stack c.requires.place c.restart.ensures;
+      others = set_there c.args.stacks.now c.args.k _ no_stack c.requires.place c.restart.ensures;
     }
 
 pub returns-clause-level : goal.returns-clause-level
@@ -34,7 +34,6 @@ loop-i-preserved c =
     let i : ℕ = c.loop-i.i in
     let old = c.loop-i.invariant in
     let lt : i < length live = c.loop-i-test.true in
-    let no_run : Run = record { start = 0; cue = 0; parts = []; whole = false } in
     let is : get_or live i no_run ≡ get_or live i (get_or live i no_run) = get_or_default live i no_run (get_or live i no_run) lt in
     let here : get_or known i None ≡ c.index-acts_of-i.result =
     get_or_default known i None c.index-acts_of-i.result (omega (arith, lt, c.requires.few, c.requires.acts)) ∙ sym c.index-acts_of-i.is in
@@ -43,7 +42,7 @@ loop-i-preserved c =
         gives = λ show base x from ground. replayed_on ground c.loop-i.auto.i lt is (old.gives show base x from ground) c.requires.order
             (here ∙ w.in-Some.is) w.push_act.ensures.level;
         few = omega (arith, w.push_act.ensures.few, old.few);
-        others = set_again old.others w.push_act.ensures.others;
+        others = set_again c.args.stacks.now c.args.k _ _ old.others w.push_act.ensures.others;
       })
       | in_default w ↦ rw w.stacks-is (record {
         gives = λ show base x from ground. replayed_off ground c.loop-i.auto.i lt is (old.gives show base x from ground)

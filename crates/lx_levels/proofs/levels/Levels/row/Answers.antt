@@ -5,7 +5,7 @@ use Rattle.lx_levels.proofs.levels.Levels.row.Goals as goal
 
 pub returns-clause-levels : goal.returns-clause-levels
 returns-clause-levels c = λ k within.
-    let place : k < length c.self.inside.stacks = rw c.self.view_is within in
+    let place : k < length c.self.inside.stacks = rw (← c.self.view_is) at within in
     rw (c.as_slice.ensures.value, ← c.self.view_is) (level_now (c.self.invariant.right.each k place).told)
 
 pub returns-clause-stands : goal.returns-clause-stands

@@ -46,4 +46,17 @@ loop-k-preserved c =
     }
 
 pub returns-clause-right : goal.returns-clause-right
-returns-clause-right c = ?
+returns-clause-right c =
+    let old = c.loop-k.invariant in
+    let all : length c.args.stacks.now ≤ c.loop-k.k =
+    omega (arith, c.loop-k-test.false, c.len-k-end.ensures, c.args.self.now.holds.ok, c.requires.reaches.of_holds) in
+    record {
+      reaches = record {
+        few = c.requires.reaches.few;
+        of_currents = old.advanced.reaches.of_currents;
+        of_levels = old.advanced.reaches.of_levels;
+        of_holds = old.advanced.reaches.of_holds;
+      };
+      begun = c.requires.moment;
+      each = λ k within. record { told = old.advanced.done k (omega (arith, within, all)); due = old.held k (omega (arith, within, all)) };
+    }

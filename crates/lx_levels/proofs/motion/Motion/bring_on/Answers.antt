@@ -11,5 +11,6 @@ returns-clause-others c = record {
 }
 
 pub returns-clause-told : goal.returns-clause-told
+unfolding returns-clause-others
 returns-clause-told c = told_here (returns-clause-others c) c.requires.reaches c.requires.within c.wake.ensures.governs
     (c.held-held.ensures.stays (get_or c.args.stacks.now c.args.k no_stack) c.wake.ensures.governs) c.held-held.ensures.later

@@ -1,4 +1,4 @@
-use Rattle.lx_levels.proofs.Imports.{get_or, refl, no_stack, arith, IsWritten}
+use Rattle.lx_levels.proofs.Imports.{get_or, refl, no_stack, arith, ap, IsWritten, Place}
 use Rattle.lx_levels.proofs.UnderWay.{refreshed, told_here, written_here}
 use Rattle.lx_levels.proofs.motion.Motion.refresh.Goals as goal
 
@@ -14,4 +14,5 @@ returns c =
     } in
     refreshed is c.requires
     (told_here is c.requires.reaches c.requires.within current.ensures.governs
-    (held.ensures.stays (get_or c.args.stacks.now c.args.k no_stack) current.ensures.governs) held.ensures.later) (omega arith) (omega arith)
+    (held.ensures.stays (get_or c.args.stacks.now c.args.k no_stack) current.ensures.governs) held.ensures.later) (omega arith)
+    (omega (arith, ap (λ (p : Place). p.hold) (written_here is c.requires.reaches c.requires.within)))

@@ -7,7 +7,7 @@ index-foot-requires c =
     omega (arith, place_within c.self.inside c.self.view_is c.requires, c.self.invariant.of_feet, c.self.inside.feet.ok)
 
 pub value_in-requires : goal.value_in-requires
-value_in-requires c = 
+value_in-requires c =
     let read = reads c.self.inside c.self.view_is c.self.invariant c.requires c.index-foot.ensures c.deref.ensures.value in
     record { within = read.within; reach = read.reach }
 
