@@ -1,5 +1,5 @@
 -- Stacks laid out plane by plane.
-use Rattle.lx_levels.proofs.Imports.{◌≡◌, ◌≢◌, ◌⊎◌, ℕ, zero, suc, ◌+◌, ◌-◌, ◌*◌, ◌<◌, ◌≤◌, List, [], ◌∷◌, drop}
+use Rattle.lx_levels.proofs.Imports.{◌≡◌, ◌≢◌, ◌⊎◌, ℕ, zero, suc, ◌+◌, ◌-◌, ◌*◌, ◌<◌, ◌≤◌, List, ◌∷◌, drop}
 use Rattle.lx_levels.proofs.Imports.{length, min, arith, get_or, set, replicate, refl, ◌∙◌, ap, sym, subst, inl, inr, All, length-set, cases_lt, get_or-set_other}
 use Rattle.lx_levels.proofs.Imports.{get_or_read, same_lists, get_or_past, get_or-replicate, Fade}
 use Rattle.lx_levels.proofs.Imports.{pushed, stack_column, no_fade, drop-stack_column, in_block, read_is, NEVER, Stack, no_stack}

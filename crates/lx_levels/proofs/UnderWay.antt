@@ -1,6 +1,6 @@
 -- Channels that are under way, as time goes on.
 use Rattle.lx_levels.proofs.Imports.{◌≡◌, ◌≢◌, ℕ, ◌+◌, ◌<◌, ◌≤◌, List, length, arith, get_or, set, get_or-set_other, get_or-set_same}
-use Rattle.lx_levels.proofs.Imports.{replicate, lit<, refl, ◌∙◌, ap, sym, subst, inl, inr, length-replicate, get_or-replicate, CHANNELS, length-set}
+use Rattle.lx_levels.proofs.Imports.{replicate, lit<, refl, ◌∙◌, ap, sym, subst, inl, inr, get_or-replicate, length-set}
 use Rattle.lx_levels.proofs.Imports.{cases_eq, NEVER, Stack, stack_level, no_stack, Governs, StaysUntil, no_current, Place, place_of, IsHeld, IsTold}
 use Rattle.lx_levels.proofs.Imports.{LevelsReach, IsRight, IsRightAt, IsRightBut, IsWritten, IsAdvanced, Motion, IsElsewhere}
 

@@ -1,4 +1,4 @@
-use Rattle.lx_levels.proofs.Imports.{◌≡◌, ◌+◌, ◌-◌, ◌<◌, ◌≤◌, ◌∙◌, ℕ, List, length, take, reverse, sym, subst}
+use Rattle.lx_levels.proofs.Imports.{◌≡◌, ◌+◌, ◌-◌, ◌<◌, ℕ, List, length, take, reverse, sym, subst}
 use Rattle.lx_levels.proofs.Imports.{arith, Run, last_cue, ValidRun}
 use Rattle.lx_levels.proofs.RunsInTurn.{target_of, known_more, later_more, begun_more, hidden, all_valid}
 use Rattle.lx_levels.proofs.replay.ground_of.Goals as goal

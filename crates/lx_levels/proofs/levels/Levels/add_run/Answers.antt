@@ -1,4 +1,3 @@
-use Rattle.lx_levels.proofs.Imports.{ap, ◌∙◌, List, get_or, length, sym, subst, length-set, get_or-set_other, Stack, no_stack, KeptLevels, kept_stack, RUNS, ◌<◌}
 use Rattle.lx_levels.proofs.UnderWay.{right_but, elsewhere}
 use Rattle.lx_levels.proofs.levels.Levels.add_run.Goals as goal
 

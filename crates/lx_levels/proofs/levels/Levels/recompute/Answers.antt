@@ -1,5 +1,5 @@
-use Rattle.lx_levels.proofs.Imports.{◌≡◌, ◌+◌, ◌-◌, ◌∙◌, List, ap, arith, length, sym, subst, length-reverse, Run, level, rules}
-use Rattle.lx_levels.proofs.Imports.{KeptLevels, IsGround, ◌<◌, Option, Act, EachAct, IsValid}
+use Rattle.lx_levels.proofs.Imports.{◌≡◌, ◌+◌, ◌-◌, ◌∙◌, List, ap, arith, length, sym, subst, length-reverse, Run, level}
+use Rattle.lx_levels.proofs.Imports.{KeptLevels, IsGround, Option, Act, EachAct, IsValid}
 use Rattle.lx_levels.proofs.Written.{written}
 use Rattle.lx_levels.proofs.UnderWay.{right_but, elsewhere}
 use Rattle.lx_levels.proofs.levels.Levels.recompute.Goals as goal

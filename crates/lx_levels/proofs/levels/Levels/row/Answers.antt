@@ -1,4 +1,4 @@
-use Rattle.lx_levels.proofs.Imports.{◌≡◌, ℕ, ◌<◌, List, length, get_or, ap, subst, sym, ◌∙◌, arith, KeptLevels, level_at}
+use Rattle.lx_levels.proofs.Imports.{◌≡◌, ◌<◌, length, ap, ◌∙◌, arith, KeptLevels}
 use Rattle.lx_levels.proofs.Stands.{kept_level}
 use Rattle.lx_levels.proofs.UnderWay.{level_now}
 use Rattle.lx_levels.proofs.levels.Levels.row.Goals as goal

@@ -1,5 +1,5 @@
-use Rattle.lx_levels.proofs.Imports.{◌≡◌, ◌+◌, ◌-◌, ◌<◌, ◌≤◌, ℕ, ◌∙◌, ap, sym, subst, arith, slice_index, option_map_or}
-use Rattle.lx_levels.proofs.Imports.{tracked, Run, last_cue, kept_stack, IsStill, refl}
+use Rattle.lx_levels.proofs.Imports.{◌≡◌, ◌+◌, ◌<◌, ◌≤◌, ℕ, ◌∙◌, ap, sym, subst, arith, slice_index, option_map_or}
+use Rattle.lx_levels.proofs.Imports.{tracked, Run, kept_stack, IsStill, refl}
 use Rattle.lx_levels.proofs.AddedRuns.{added_next, added_row, known_as, same_run_copied, stands_on, stands_off, stands_still}
 use Rattle.lx_levels.proofs.Looks.{tracked_in_look}
 use Rattle.lx_levels.proofs.levels.Levels.run_added.Goals as goal

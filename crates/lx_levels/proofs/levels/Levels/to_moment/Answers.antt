@@ -1,4 +1,4 @@
-use Rattle.lx_levels.proofs.Imports.{◌<◌, length, ap, subst, sym, ◌∙◌, arith, KeptLevels, level_at, inl}
+use Rattle.lx_levels.proofs.Imports.{◌<◌, length, ap, sym, ◌∙◌, arith, KeptLevels, inl}
 use Rattle.lx_levels.proofs.UnderWay.{level_now}
 use Rattle.lx_levels.proofs.levels.Levels.to_moment.Goals as goal
 
