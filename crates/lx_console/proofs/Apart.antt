@@ -9,7 +9,7 @@ use Rattle.lx_spec.proofs.Comparisons.{lt_from}
 use Rattle.lx_spec.proofs.Lists.{found_has, passes}
 use Rattle.lx_edit.proofs.ChangedColumns.{alike_past}
 use Rattle.lx_edit.proofs.Walks.{tracked_below-with_cue}
-use Rattle.lx_levels.specs.TimedFades.{timed_over}
+use Rattle.lx_levels.specs.Acts.{act_over}
 
 -- a run of no use
 abbrev pub no_run : Run
@@ -35,8 +35,11 @@ same_level show cue n c m valid number least (inr past) = alike_past show cue n 
 abbrev over_one : Run → ℕ → ℕ → (ℕ → ℕ) → Bool → Option Move → ℕ → ℕ → ℕ
 over_one run m c before asserted move at target =
     if run.whole || asserted || is_some move || not (at == target)
-    then timed_over (unwrap_or (option_and_then (λ (v : Move). entry_at (λ e. e.part) v.part run.parts) move) (first_entry run.parts))
-    before run.start target m
+    then act_over (record {
+      start = run.start;
+      target = target;
+      entry = unwrap_or (option_and_then (λ (v : Move). entry_at (λ e. e.part) v.part run.parts) move) (first_entry run.parts);
+    }) before m
     else before m
 
 -- so the levels over runs that go to such numbers are the same
@@ -95,25 +98,20 @@ unseen_by show p n f c k base runs by = record {
   runs = λ i d within. apart_from show n f c (slice_index_or p.live i d).cue k (runs i d within) by;
 }
 
--- an unseen channel keeps what its levels stand for
-pub unseen_stands : (show after : Show) (p : Playback) (n k : ℕ) (levels : Levels) → Valid show → LevelsStandFor show p levels
-    → k < show.channels → PlacesCue show after n → IsUnseen after p n (k + 1) → StackStandsAt after p levels k
-unseen_stands show after p n k levels valid stands within places unseen =
-    let old = stands.each k within in
-    let seen = subst (λ (s : Show). IsUnseen s p n (k + 1)) places.after_is unseen in
-    record {
-      later = λ x from. old.later x from
-          ∙ (level_apart show places.cue n (k + 1) p.base p.live x valid places.number places.least seen.base seen.runs).0
-          ∙ sym (ap (λ (s : Show). level s p.base p.live (k + 1) x) places.after_is);
-      few = old.few;
-    }
-
--- as where a plan placed one cue
+-- an unseen channel keeps what its levels stand for, where a plan placed one cue
 pub placed_stands : (show after : Show) (p : Playback) (plan : Plan) (placed : Option ℕ) (k : ℕ) (levels : Levels) → Valid show
     → LevelsStandFor show p levels → k < show.channels → IsReady show plan → after ≡ planned show plan
     → IfSome placed (λ n. (s : Show) → Valid s → IsReady s plan → PlacesCue s (planned s plan) n)
     → IsSomeAnd placed (λ n. IsUnseen after p n (k + 1)) → StackStandsAt after p levels k
 placed_stands show after p plan None k levels valid stands within ready is places unseen = absurd unseen
 placed_stands show after p plan (Some n) k levels valid stands within ready is places unseen =
-    unseen_stands show after p n k levels valid stands within
-    (subst (λ (s : Show). PlacesCue show s n) (sym is) (places show valid ready)) unseen
+    let old = stands.each k within in
+    let placed = places show valid ready in
+    let after_is = is ∙ placed.after_is in
+    let seen = subst (λ (s : Show). IsUnseen s p n (k + 1)) after_is unseen in
+    record {
+      later = λ x from. old.later x from
+          ∙ (level_apart show placed.cue n (k + 1) p.base p.live x valid placed.number placed.least seen.base seen.runs).0
+          ∙ sym (ap (λ (s : Show). level s p.base p.live (k + 1) x) after_is);
+      few = old.few;
+    }

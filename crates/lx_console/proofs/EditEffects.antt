@@ -8,50 +8,32 @@ use Rattle.lx_edit.specs.declared.chan_set.ChanSet.{ChanSet}
 
 -- a plan leaves the channel count
 pub same_channels : (show : Show) (plan : Plan) → (planned show plan).channels ≡ show.channels
-same_channels show plans.Nothing = refl
 same_channels show (plans.Cue n to None keeps) = refl
 same_channels show (plans.Cue n to (Some above) keeps) = refl
-same_channels show (plans.Move n entry) = refl
-same_channels show (plans.Moves n moves within) = refl
-same_channels show (plans.Group g to) = refl
-same_channels show (plans.Sub s to) = refl
-same_channels show (plans.Row e to) = refl
+same_channels show plan = refl
 
 -- a plan that changes no submaster leaves them
 pub same_subs : (show : Show) (plan : Plan) → plans_sub plan ≡ false → (planned show plan).subs ≡ show.subs
-same_subs show plans.Nothing clean = refl
 same_subs show (plans.Cue n to None keeps) clean = refl
 same_subs show (plans.Cue n to (Some above) keeps) clean = refl
-same_subs show (plans.Move n entry) clean = refl
-same_subs show (plans.Moves n moves within) clean = refl
-same_subs show (plans.Group g to) clean = refl
 same_subs show (plans.Sub s to) clean = cc
-same_subs show (plans.Row e to) clean = refl
+same_subs show plan clean = refl
 
--- a plan that changes no patch row leaves them
-pub same_patch : (show : Show) (plan : Plan) → dimmer_planned plan ≡ None → (planned show plan).patch ≡ show.patch
-same_patch show plans.Nothing clean = refl
-same_patch show (plans.Cue n to None keeps) clean = refl
-same_patch show (plans.Cue n to (Some above) keeps) clean = refl
-same_patch show (plans.Move n entry) clean = refl
-same_patch show (plans.Moves n moves within) clean = refl
-same_patch show (plans.Group g to) clean = refl
-same_patch show (plans.Sub s to) clean = refl
-same_patch show (plans.Row e to) clean = cc
-
--- a plan leaves the rows of the dimmers but the one that it names
+-- a plan leaves the rows of the dimmers but the one that it names, and all where it names none
 pub other_rows : (show : Show) (plan : Plan) (e : ℕ) → IsReady show plan → dimmer_planned plan ≢ Some e
     → entry_at (λ row. row.dimmer) e (planned show plan).patch ≡ entry_at (λ row. row.dimmer) e show.patch
-other_rows show plans.Nothing e ready other = refl
 other_rows show (plans.Cue n to None keeps) e ready other = refl
 other_rows show (plans.Cue n to (Some above) keeps) e ready other = refl
-other_rows show (plans.Move n entry) e ready other = refl
-other_rows show (plans.Moves n moves within) e ready other = refl
-other_rows show (plans.Group g to) e ready other = refl
-other_rows show (plans.Sub s to) e ready other = refl
 other_rows show (plans.Row n None) e ready other = others_stay n e show.patch (λ same. other (ap Some (sym same)))
 other_rows show (plans.Row n (Some row)) e ready other =
     entry_at-placed_other (λ x. x.dimmer) e row show.patch (λ same. other (ap Some (sym ready.0 ∙ same)))
+other_rows show plan e ready other = refl
+
+pub same_patch : (show : Show) (plan : Plan) → dimmer_planned plan ≡ None → (planned show plan).patch ≡ show.patch
+same_patch show (plans.Cue n to None keeps) clean = refl
+same_patch show (plans.Cue n to (Some above) keeps) clean = refl
+same_patch show (plans.Row e to) clean = cc
+same_patch show plan clean = refl
 
 -- submasters that are the same give the same
 pub contributions_by : (one other : Show) (faders contributions : List ℕ) → other.subs ≡ one.subs → other.channels ≡ one.channels

@@ -1,5 +1,5 @@
 -- An output shows a player when its outputs are mixed from the player's levels, and does so while nothing that goes out changes.
-use Rattle.lx_console.proofs.Imports.{◌≡◌, ℕ, ◌+◌, ◌<◌, max, List, length, take, drop, ◌++◌, AllByRecursion, arith, ap, ◌∙◌, sym}
+use Rattle.lx_console.proofs.Imports.{◌≡◌, ℕ, ◌+◌, ◌<◌, max, List, length, take, drop, ◌++◌, AllByRecursion, arith, ap, ◌∙◌, sym, refl}
 use Rattle.lx_console.proofs.Imports.{subst, common_steps, scaled, PatchRow, ValidPatchRow, contribution, Kept, IsTable, StandsForPatch, SamePatch, SameOutputs}
 use Rattle.lx_console.proofs.Imports.{level_now, out_now, Reaches, PatchesOwnChannels, SlotsStand, ShowsPlayer, IsMixedOutput}
 use Rattle.lx_console.specs.declared.kept_output.KeptOutput.{KeptOutput}
@@ -23,9 +23,6 @@ filled k levels output of_levels is = record {
 }
 
 -- places, table and slots stay for the same channels and rows
-pub same_reaches : (before after : ℕ) (output : KeptOutput) → after ≡ before → Reaches before output → Reaches after output
-same_reaches before after output same reaches = subst (λ n. Reaches n output) (sym same) reaches
-
 pub same_table : (before after : Kept) (output : KeptOutput) → SamePatch before after → StandsForPatch before.show.patch output.table
     → StandsForPatch after.show.patch output.table
 same_table before after output same stands = subst (λ (rows : List PatchRow). StandsForPatch rows output.table) (sym same.patch) stands
@@ -40,14 +37,11 @@ same_slots before after output same stand = subst (λ (rows : List PatchRow). Sl
 
 same_out : (before after : Kept) (i : ℕ) → SameOutputs before after → i < before.show.channels
     → out_now before (i + 1) ≡ out_now after (i + 1)
-same_out before after i same within =
-    ap (λ l. scaled (max l (contribution before.show before.faders (i + 1))) before.master) (sym (same.levels i within))
-    ∙ ap (λ g. scaled (max (level_now after (i + 1)) g) before.master) (sym (same.contributions i within))
-    ∙ ap (λ m. scaled (max (level_now after (i + 1)) (contribution after.show after.faders (i + 1))) m) (sym same.master)
+same_out before after i same within = rw (same.levels i within, same.contributions i within, same.master) refl
 
 pub filled_still : (before after : Kept) (output : KeptOutput) → ShowsPlayer before output → SameOutputs before after → ShowsPlayer after output
 filled_still before after output is same = record {
-  reaches = same_reaches before.show.channels after.show.channels output same.rows.channels is.reaches;
+  reaches = subst (λ n. Reaches n output) (sym same.rows.channels) is.reaches;
   rows = same_rows before after same.rows is.rows;
   patch_stands = same_table before after output same.rows is.patch_stands;
   outs_stand = record {

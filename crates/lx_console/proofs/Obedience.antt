@@ -45,121 +45,101 @@ stands_answered show done command (Ok x) before now stands answers same =
     (stands_after (replay show done) (step (replay show done) command) now answers.ok)
 stands_answered show done command (Err refusal) before now stands answers same = record { same = same ∙ stands.same; rest = stands.rest }
 
-played_ok : (d : Desk) (r : Result Played Refusal) (now : Kept) → IfOk (r >>= (λ played. Ok (after_play d played))) KeepsRest
-    → IsOkAnd r (λ played. now ≡ record (kept d) { playback = played.playback })
-    → IsOkAnd (r >>= (λ played. Ok (after_play d played))) (λ next. StandsFor next now)
-played_ok d (Ok played) now rest is = record { same = is; rest = rest }
-played_ok d (Err refusal) now rest is = absurd is
+-- a step that is made of another answer
+stepped : {B : Type 0} (d : Desk) (r : Result B Refusal) (f : B → Desk) (now : Kept) → IfOk (r >>= (λ y. Ok (f y))) KeepsRest
+    → IsOkAnd r (λ y. now ≡ kept (f y)) → IsOkAnd (r >>= (λ y. Ok (f y))) (λ next. StandsFor next now)
+stepped d (Ok y) f now rest is = record { same = is; rest = rest }
+stepped d (Err refusal) f now rest is = absurd is
 
--- a key of the playback
-pub obeys_play : {A : Type 0} (d : Desk) (key : PlayKey) (answer : Result A Refusal) (before now : Kept) → StandsFor d before
+obeys_played : {A : Type 0} (d : Desk) (command : Command) (r : Result Played Refusal) (answer : Result A Refusal) (now : Kept)
+    → IfOk (r >>= (λ played. Ok (after_play d played))) KeepsRest → step d command ≡ (r >>= (λ played. Ok (after_play d played)))
+    → OnOk answer (IsOkAnd r (λ played. now ≡ record (kept d) { playback = played.playback })) → IfErr answer (λ refusal. r ≡ Err refusal)
+    → Obeys d command answer now
+obeys_played d command r (Ok x) now rest step_is ok err = record {
+  ok = subst (λ s. IsOkAnd s (λ next. StandsFor next now)) (sym step_is) (stepped d r (after_play d) now rest ok);
+  err = tt;
+}
+obeys_played d command r (Err refusal) now rest step_is ok err = record {
+  ok = tt;
+  err = step_is ∙ ap (λ s. s >>= (λ played. Ok (after_play d played))) err;
+}
+
+-- a key of the playback, and a tick
+pub obeys_play : {A : Type 0} {d : Desk} {before now : Kept} (key : PlayKey) (answer : Result A Refusal) → StandsFor d before
     → OnOk answer (IsOkAnd (press before.show before.playback key) (λ played. now ≡ record before { playback = played.playback }))
-    → IfErr answer (λ refusal. press before.show before.playback key ≡ Err refusal)
-    → Obeys d (commands.Key (Play key)) answer now
-obeys_play d key (Ok x) before now stands ok err = record {
-  ok = played_ok d (press d.show d.playback key) now (kept-step d (commands.Key (Play key)) stands.rest)
-      (subst (λ (k : Kept). IsOkAnd (press k.show k.playback key) (λ played. now ≡ record k { playback = played.playback })) stands.same
-      ok);
-  err = tt;
-}
-obeys_play d key (Err refusal) before now stands ok err = record {
-  ok = tt;
-  err = ap (λ r. r >>= (λ played. Ok (after_play d played)))
-      (subst (λ (k : Kept). press k.show k.playback key ≡ Err refusal) stands.same err);
-}
+    → IfErr answer (λ refusal. press before.show before.playback key ≡ Err refusal) → Obeys d (commands.Key (Play key)) answer now
+obeys_play {d = d} {now = now} key answer stands ok err = obeys_played d (commands.Key (Play key)) (press d.show d.playback key) answer now
+    (kept-step d (commands.Key (Play key)) stands.rest) refl
+    (subst (λ (k : Kept). OnOk answer (IsOkAnd (press k.show k.playback key) (λ played. now ≡ record k { playback = played.playback })))
+    stands.same ok) (subst (λ (k : Kept). IfErr answer (λ refusal. press k.show k.playback key ≡ Err refusal)) stands.same err)
 
-pub obeys_tick : {A : Type 0} (d : Desk) (answer : Result A Refusal) (before now : Kept) → StandsFor d before
+pub obeys_tick : {A : Type 0} {d : Desk} {before now : Kept} (answer : Result A Refusal) → StandsFor d before
     → OnOk answer (IsOkAnd (tick before.show before.playback) (λ played. now ≡ record before { playback = played.playback }))
-    → IfErr answer (λ refusal. tick before.show before.playback ≡ Err refusal)
-    → Obeys d commands.Tick answer now
-obeys_tick d (Ok x) before now stands ok err = record {
-  ok = played_ok d (tick d.show d.playback) now (kept-step d commands.Tick stands.rest)
-      (subst (λ (k : Kept). IsOkAnd (tick k.show k.playback) (λ played. now ≡ record k { playback = played.playback })) stands.same ok);
-  err = tt;
-}
-obeys_tick d (Err refusal) before now stands ok err = record {
-  ok = tt;
-  err = ap (λ r. r >>= (λ played. Ok (after_play d played))) (subst (λ (k : Kept). tick k.show k.playback ≡ Err refusal) stands.same err);
-}
+    → IfErr answer (λ refusal. tick before.show before.playback ≡ Err refusal) → Obeys d commands.Tick answer now
+obeys_tick {d = d} {now = now} answer stands ok err = obeys_played d commands.Tick (tick d.show d.playback) answer now
+    (kept-step d commands.Tick stands.rest) refl
+    (subst (λ (k : Kept). OnOk answer (IsOkAnd (tick k.show k.playback) (λ played. now ≡ record k { playback = played.playback })))
+    stands.same ok) (subst (λ (k : Kept). IfErr answer (λ refusal. tick k.show k.playback ≡ Err refusal)) stands.same err)
 
-fader_ok : (d : Desk) (s level : ℕ) (b : Bool) (now : Kept) → IsTrue b
-    → IfOk (cond b (Ok (record d { faders = slice_set d.faders (s - 1) level })) (Err (AbsentSub s))) KeepsRest
-    → now ≡ record (kept d) { faders = slice_set d.faders (s - 1) level }
-    → IsOkAnd (cond b (Ok (record d { faders = slice_set d.faders (s - 1) level })) (Err (AbsentSub s))) (λ next. StandsFor next now)
-fader_ok d s level true now there rest is = record { same = is; rest = rest }
-fader_ok d s level false now there rest is = absurd cc
+-- a fader, of a submaster that the show has or lacks
+fader_obeys : {A : Type 0} (d : Desk) (s level : ℕ) (b : Bool) (answer : Result A Refusal) (now : Kept)
+    → IfOk (cond b (Ok (record d { faders = slice_set d.faders (s - 1) level })) (Err (AbsentSub s))) KeepsRest → OnOk answer (IsTrue b)
+    → OnOk answer (now ≡ record (kept d) { faders = slice_set d.faders (s - 1) level }) → IfErr answer (λ refusal. refusal ≡ AbsentSub s)
+    → OnErr answer (IsFalse b)
+    → OnOk answer (IsOkAnd (cond b (Ok (record d { faders = slice_set d.faders (s - 1) level })) (Err (AbsentSub s))) (λ next. StandsFor next now))
+    × IfErr answer (λ refusal. cond b (Ok (record d { faders = slice_set d.faders (s - 1) level })) (Err (AbsentSub s)) ≡ Err refusal)
+fader_obeys d s level true (Ok x) now rest there state err absent = (record { same = state; rest = rest }, tt)
+fader_obeys d s level false (Ok x) now rest there state err absent = absurd cc
+fader_obeys d s level true (Err refusal) now rest there state err absent = absurd cc
+fader_obeys d s level false (Err refusal) now rest there state err absent = (tt, ap Err (sym err))
 
-fader_err : (d : Desk) (s level : ℕ) (b : Bool) (refusal : Refusal) → IsFalse b → refusal ≡ AbsentSub s
-    → cond b (Ok (record d { faders = slice_set d.faders (s - 1) level })) (Err (AbsentSub s)) ≡ Err refusal
-fader_err d s level true refusal absent is = absurd cc
-fader_err d s level false refusal absent is = ap Err (sym is)
-
-pub obeys_fader : {A : Type 0} (d : Desk) (s level : ℕ) (answer : Result A Refusal) (before now : Kept) → StandsFor d before
+pub obeys_fader : {A : Type 0} {d : Desk} {before now : Kept} (s level : ℕ) (answer : Result A Refusal) → StandsFor d before
     → OnOk answer (IsTrue (has_entry (λ x. x.number) s before.show.subs))
     → OnOk answer (now ≡ record before { faders = slice_set before.faders (s - 1) level })
     → IfErr answer (λ refusal. refusal ≡ AbsentSub s)
-    → OnErr answer (IsFalse (has_entry (λ x. x.number) s before.show.subs))
-    → Obeys d (commands.Key (Fader s level)) answer now
-obeys_fader d s level (Ok x) before now stands there state err absent = record {
-  ok = fader_ok d s level (has_entry (λ x. x.number) s d.show.subs) now
-      (subst (λ (k : Kept). IsTrue (has_entry (λ x. x.number) s k.show.subs)) stands.same there)
-      (kept-step d (commands.Key (Fader s level)) stands.rest)
-      (subst (λ (k : Kept). now ≡ record k { faders = slice_set k.faders (s - 1) level }) stands.same state);
-  err = tt;
-}
-obeys_fader d s level (Err refusal) before now stands there state err absent = record {
-  ok = tt;
-  err = fader_err d s level (has_entry (λ x. x.number) s d.show.subs) refusal
-      (subst (λ (k : Kept). IsFalse (has_entry (λ x. x.number) s k.show.subs)) stands.same absent) err;
-}
+    → OnErr answer (IsFalse (has_entry (λ x. x.number) s before.show.subs)) → Obeys d (commands.Key (Fader s level)) answer now
+obeys_fader {d = d} {now = now} s level answer stands there state err absent =
+    let both = fader_obeys d s level (has_entry (λ x. x.number) s d.show.subs) answer now
+    (kept-step d (commands.Key (Fader s level)) stands.rest)
+    (subst (λ (k : Kept). OnOk answer (IsTrue (has_entry (λ x. x.number) s k.show.subs))) stands.same there)
+    (subst (λ (k : Kept). OnOk answer (now ≡ record k { faders = slice_set k.faders (s - 1) level })) stands.same state) err
+    (subst (λ (k : Kept). OnErr answer (IsFalse (has_entry (λ x. x.number) s k.show.subs))) stands.same absent) in
+    record { ok = both.0; err = both.1 }
 
-pub obeys_master : (d : Desk) (level : ℕ) (before now : Kept) → StandsFor d before → now ≡ record before { master = level }
+pub obeys_master : {d : Desk} {before now : Kept} (level : ℕ) → StandsFor d before → now ≡ record before { master = level }
     → IsOkAnd (step d (commands.Key (Master level))) (λ next. StandsFor next now)
-obeys_master d level before now stands state = record {
+obeys_master {d = d} {now = now} level stands state = record {
   same = subst (λ (k : Kept). now ≡ record k { master = level }) stands.same state;
   rest = kept-step d (commands.Key (Master level)) stands.rest;
 }
 
 -- what obeys answers
-pub answers : {A : Type 0} (d : Desk) (command : Command) (answer : Result A Refusal) (now : Kept) → Obeys d command answer now
+pub answers : {A : Type 0} {d : Desk} {command : Command} {now : Kept} (answer : Result A Refusal) → Obeys d command answer now
     → Answers d command answer now
-answers d command (Ok x) now obeys = record { ok = obeys.ok; err = tt }
-answers d command (Err refusal) now obeys = record { ok = tt; err = inl obeys.err }
+answers (Ok x) obeys = record { ok = obeys.ok; err = tt }
+answers (Err refusal) obeys = record { ok = tt; err = inl obeys.err }
 
 -- the desk with another show
-pub stands_over : (d : Desk) (show : Show) (before : Kept) → StandsFor d before
-    → StandsFor (record d { show = show }) (record before { show = show })
-stands_over d show before stands = record {
-  same = ap (λ (k : Kept). record k { show = show }) stands.same;
+pub stands_with : {d : Desk} {before now : Kept} (show : Show) → now ≡ record before { show = show } → StandsFor d before
+    → StandsFor (record d { show = show }) now
+stands_with show is stands = record {
+  same = is ∙ ap (λ (k : Kept). record k { show = show }) stands.same;
   rest = record {
     from = stands.rest.from;
     older = stands.rest.older;
     all_is = stands.rest.all_is;
     base_is = stands.rest.base_is;
-    still =
-        stands.rest.still;
+    still = stands.rest.still;
     later = stands.rest.later;
     begun = stands.rest.begun;
   };
 }
 
-pub stands_with : (d : Desk) (show : Show) (before now : Kept) → now ≡ record before { show = show } → StandsFor d before
-    → StandsFor (record d { show = show }) now
-stands_with d show before now is stands = subst (StandsFor (record d { show = show })) (sym is) (stands_over d show before stands)
-
 -- the desk with the show that a plan makes
-pub stands_planned : (d : Desk) (plan : Plan) (before seen now : Kept) → before ≡ seen
-    → now ≡ record before { show = planned before.show plan } → StandsFor d seen
-    → StandsFor (record d { show = planned seen.show plan }) now
-stands_planned d plan before seen now same is stands =
-    subst (StandsFor (record d { show = planned seen.show plan })) (sym (is ∙ ap (λ (k : Kept). record k { show = planned k.show plan }) same))
-    (stands_over d (planned seen.show plan) seen stands)
-
-edited_ok : (d : Desk) (r : Result Show Refusal) (now : Kept) → IfOk (r >>= (λ show. Ok (record d { show = show }))) KeepsRest
-    → IsOkAnd r (λ show. now ≡ record (kept d) { show = show })
-    → IsOkAnd (r >>= (λ show. Ok (record d { show = show }))) (λ next. StandsFor next now)
-edited_ok d (Ok show) now rest is = record { same = is; rest = rest }
-edited_ok d (Err refusal) now rest is = absurd is
+pub stands_planned : {d : Desk} {before seen now : Kept} (plan : Plan) → before ≡ seen
+    → now ≡ record before { show = planned before.show plan } → StandsFor d seen → StandsFor (record d { show = planned seen.show plan }) now
+stands_planned {seen = seen} plan same is stands =
+    stands_with (planned seen.show plan) (is ∙ ap (λ (k : Kept). record k { show = planned k.show plan }) same) stands
 
 edited_err : (d : Desk) (edit : Edit) (refusal : Refusal) → (refusal ≡ Memory → takes_memory edit ≡ true) → IsRefusal d.show edit refusal
     → Refuses d (commands.Edit edit) refusal
@@ -172,16 +152,16 @@ edited_err d edit refusal takes r = elim r as (λ s. Refuses d (commands.Edit ed
   accepted d (Err refusal) ok = absurd cc
 
 -- an edit
-pub answers_edit : {A : Type 0} (d : Desk) (edit : Edit) (answer : Result A Refusal) (before now : Kept) → StandsFor d before
+pub answers_edit : {A : Type 0} {d : Desk} {before now : Kept} (edit : Edit) (answer : Result A Refusal) → StandsFor d before
     → OnOk answer (IsOkAnd (edited before.show edit) (λ show. now ≡ record before { show = show }))
     → IfErr answer (IsRefusal before.show edit) → (answer ≡ Err Memory → takes_memory edit ≡ true)
     → Answers d (commands.Edit edit) answer now
-answers_edit d edit (Ok x) before now stands ok err takes = record {
-  ok = edited_ok d (edited d.show edit) now (kept-step d (commands.Edit edit) stands.rest)
+answers_edit {d = d} {now = now} edit (Ok x) stands ok err takes = record {
+  ok = stepped d (edited d.show edit) (λ show. record d { show = show }) now (kept-step d (commands.Edit edit) stands.rest)
       (subst (λ (k : Kept). IsOkAnd (edited k.show edit) (λ show. now ≡ record k { show = show })) stands.same ok);
   err = tt;
 }
-answers_edit d edit (Err refusal) before now stands ok err takes = record {
+answers_edit {d = d} edit (Err refusal) stands ok err takes = record {
   ok = tt;
   err = edited_err d edit refusal (λ memory. takes (ap Err memory)) (subst (λ (k : Kept). IsRefusal k.show edit refusal) stands.same err);
 }

@@ -1,10 +1,15 @@
 -- What commands change of what goes out.
-use Rattle.lx_console.proofs.Imports.{◌≡◌, ℕ, ◌+◌, ◌<◌, refl, Bool, true, false, Some, List, ap, sym, ◌∙◌, arith, entry_at, Show, Sub}
+use Rattle.lx_console.proofs.Imports.{◌≡◌, ℕ, ◌+◌, ◌<◌, refl, Bool, true, false, Some, List, ap, sym, ◌∙◌, arith, Show, Sub}
 use Rattle.lx_console.proofs.Imports.{contribution, Playback, Kept, Plan, IsReady, planned, dimmer_planned, plans_sub, KeptLevels as Levels, level_at}
 use Rattle.lx_console.proofs.Imports.{LevelsStandFor, kept_level, Change, SamePatch, Changes, of_levels, IsChangeOf}
 use Rattle.lx_edit.specs.declared.dirty.Dirty.{Dirty}
+use Rattle.lx_console.specs.declared.player.Player.TheInside.{Inside}
 use Rattle.lx_console.specs.declared.change.Change.TheVariants as changes
 use Rattle.lx_console.proofs.EditEffects.{same_channels, same_subs, same_patch, other_rows}
+
+-- what is in a player, as what is kept of a desk
+abbrev pub kept_in : Inside → Kept
+kept_in player = record { show = player.show; playback = player.playback; faders = player.rack.faders; master = player.master }
 
 -- the same show has the same channels and rows
 pub same_show : (before after : Kept) → after.show ≡ before.show → SamePatch before after
@@ -26,31 +31,26 @@ played_changes k p before after false old new same = record {
 }
 
 -- a plan, by what it touched and whether levels changed by it
-pub planned_changes : (k : Kept) (after : Show) (plan : Plan) (dirty : Dirty) (old new : Levels) (leveled : Bool) (change : Change)
-    → IsReady k.show plan → after ≡ planned k.show plan → LevelsStandFor k.show k.playback old → LevelsStandFor after k.playback new → (leveled ≡ false → new ≡ old)
+pub planned_changes : (k : Kept) (plan : Plan) (dirty : Dirty) (old new : Levels) (leveled : Bool) (change : Change) → IsReady k.show plan
+    → LevelsStandFor k.show k.playback old → LevelsStandFor (planned k.show plan) k.playback new → (leveled ≡ false → new ≡ old)
     → dirty.dimmer ≡ dimmer_planned plan → dirty.subs ≡ plans_sub plan → IsChangeOf dirty leveled change
-    → Changes change k (record k { show = after })
-planned_changes k after plan dirty old new leveled changes.Nothing ready is stood stands same dimmer subs none = record {
-  rows = record {
-    channels = ap (λ (s : Show). s.channels) is ∙ same_channels k.show plan;
-    patch = ap (λ (s : Show). s.patch) is ∙ same_patch k.show plan (sym dimmer ∙ none.dimmer);
-  };
+    → Changes change k (record k { show = planned k.show plan })
+planned_changes k plan dirty old new leveled changes.Nothing ready stood stands same dimmer subs none = record {
+  rows = record { channels = same_channels k.show plan; patch = same_patch k.show plan (sym dimmer ∙ none.dimmer) };
   levels = λ i within.
-      let channels : after.channels ≡ k.show.channels = ap (λ (s : Show). s.channels) is ∙ same_channels k.show plan in
-      sym (kept_level after k.playback new i stands (omega (arith, channels, within))) ∙ ap (λ (l : Levels). level_at l i) (same none.levels)
-      ∙ kept_level k.show k.playback old i stood within;
+      sym (kept_level (planned k.show plan) k.playback new i stands (omega (arith, same_channels k.show plan, within)))
+      ∙ ap (λ (l : Levels). level_at l i) (same none.levels) ∙ kept_level k.show k.playback old i stood within;
   contributions = λ i within. ap (λ (s : List Sub). contribution (record k.show { subs = s }) k.faders (i + 1))
-      (ap (λ (s : Show). s.subs) is ∙ same_subs k.show plan (sym subs ∙ none.subs));
+      (same_subs k.show plan (sym subs ∙ none.subs));
   master = refl;
 }
-planned_changes k after plan dirty old new leveled changes.Levels ready is stood stands same dimmer subs none = record {
-  channels = ap (λ (s : Show). s.channels) is ∙ same_channels k.show plan;
-  patch = ap (λ (s : Show). s.patch) is ∙ same_patch k.show plan (sym dimmer ∙ none);
+planned_changes k plan dirty old new leveled changes.Levels ready stood stands same dimmer subs none = record {
+  channels = same_channels k.show plan;
+  patch = same_patch k.show plan (sym dimmer ∙ none);
 }
-planned_changes k after plan dirty old new leveled (changes.Row e) ready is stood stands same dimmer subs names = record {
-  channels = ap (λ (s : Show). s.channels) is ∙ same_channels k.show plan;
-  rows = λ f other. ap (λ (s : Show). entry_at (λ row. row.dimmer) f s.patch) is
-      ∙ other_rows k.show plan f ready (λ same. other (same_dimmer f e (sym same ∙ sym dimmer ∙ names)));
+planned_changes k plan dirty old new leveled (changes.Row e) ready stood stands same dimmer subs names = record {
+  channels = same_channels k.show plan;
+  rows = λ f other. other_rows k.show plan f ready (λ same. other (same_dimmer f e (sym same ∙ sym dimmer ∙ names)));
 } where
   same_dimmer : (f e : ℕ) → Some f ≡ Some e → f ≡ e
   same_dimmer f e same = cc

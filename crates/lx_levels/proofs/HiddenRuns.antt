@@ -1,56 +1,46 @@
--- What a run's fade hides of older runs, from a moment on.
-use Rattle.lx_levels.proofs.Imports.{◌≡◌, ℕ, ◌+◌, ◌-◌, ◌≤◌, Bool, true, false, cond, nat_lt, nat_le, List, ◌∷◌, refl, arith}
-use Rattle.lx_levels.proofs.Imports.{◌∙◌, sym, Show, tracked, Run, acts, entry_for, entry_extent, time_of, delay_of, level, last_cue, fade_over, run_over}
-use Rattle.lx_levels.proofs.Imports.{rises_to, same_run}
-use Rattle.std.proofs.lemmas.Bool.Decides.{nat_tests}
+-- What a run does to the level over older runs, from a moment on.
+use Rattle.lx_levels.proofs.Imports.{◌≡◌, ℕ, ◌+◌, ◌-◌, ◌≤◌, Bool, true, false, cond, nat_le, List, ◌∷◌, None, Some, refl, arith}
+use Rattle.lx_levels.proofs.Imports.{◌∙◌, sym, Show, Run, acts, entry_extent, level, last_cue, fade_over, run_over, same_run, Act, act_over, IsKnown, IsOf}
+use Rattle.lx_spec.proofs.Comparisons.{lt_false, le_true}
 
-lt_false : (m s : ℕ) → s ≤ m → nat_lt m s ≡ false
-lt_false m s h = grind (arith, nat_tests)
+-- an act is what its run does
+pub act_is : {show : Show} {run : Run} {c : ℕ} {act : Act} (before : ℕ → ℕ) (m : ℕ) → IsOf show run c act
+    → act_over act before m ≡ run_over show before run c m
+act_is before m of = rw (of.entry, of.start, of.target) refl
 
-le_true : (a b : ℕ) → a ≤ b → nat_le a b ≡ true
-le_true a b h = grind (arith, nat_tests)
-
--- a fade that is over
+-- one that is over
 fade_done : (before : ℕ → ℕ) (s time target m : ℕ) → s + time ≤ m → fade_over before s time target m ≡ target
 fade_done before s time target m over = rw (lt_false m s (omega arith), le_true time (m - s) (omega arith)) refl
 
-run_done : (show : Show) (before : ℕ → ℕ) (run : Run) (c m : ℕ) → run.start + entry_extent (entry_for show run c) ≤ m
-    → run_over show before run c m ≡ tracked show run.cue c
-run_done show before run c m over = either (rises_to show before run c) where
-  either : (b : Bool) → fade_over before (run.start + delay_of show run c b) (time_of show run c b) (tracked show run.cue c) m
-      ≡ tracked show run.cue c
-  either true = fade_done before (run.start + (entry_for show run c).up_delay) (entry_for show run c).up (tracked show run.cue c) m
-      (omega arith)
-  either false = fade_done before (run.start + (entry_for show run c).down_delay) (entry_for show run c).down (tracked show run.cue c) m
-      (omega arith)
+pub act_done : (act : Act) (before : ℕ → ℕ) (m : ℕ) → act.start + entry_extent act.entry ≤ m → act_over act before m ≡ act.target
+act_done act before m over = either (nat_le (before act.start) act.target) where
+  either : (b : Bool) → fade_over before (act.start + cond b act.entry.up_delay act.entry.down_delay) (cond b act.entry.up act.entry.down)
+      act.target m ≡ act.target
+  either true = fade_done before (act.start + act.entry.up_delay) act.entry.up act.target m (omega arith)
+  either false = fade_done before (act.start + act.entry.down_delay) act.entry.down act.target m (omega arith)
 
-acted : (b : Bool) (v w : ℕ) → b ≡ true → cond b v w ≡ v
-acted true v w is = refl
-acted false v w is = absurd cc
+chosen : (b : Bool) {x v w : ℕ} → cond b v w ≡ x → (b ≡ true → v ≡ x) × (b ≡ false → w ≡ x)
+chosen true is = (λ _. is, λ other. absurd cc)
+chosen false is = (λ other. absurd cc, λ _. is)
 
-passed : (b : Bool) (v w : ℕ) → b ≡ false → cond b v w ≡ w
-passed false v w is = refl
-passed true v w is = absurd cc
+-- the level over one more run, which acts on the channel or not
+module _ {show : Show} {run : Run} {c : ℕ} (base : ℕ) (older : List Run) (m : ℕ) where
+  pub level_passed : IsKnown show (last_cue base older) run c None → level show base older c m ≡ level show base (run ∷ older) c m
+  level_passed known = (chosen (acts show (last_cue base older) run c) refl).1 known.acts_is
 
--- the level over one more run on a channel on which it acts, and on one on which it doesn't
-pub level_acted : (show : Show) (base : ℕ) (run : Run) (older : List Run) (c m : ℕ) → acts show (last_cue base older) run c ≡ true
-    → level show base (run ∷ older) c m ≡ run_over show (level show base older c) run c m
-level_acted show base run older c m on = acted (acts show (last_cue base older) run c) _ _ on
+  pub level_acted : {act : Act} → IsKnown show (last_cue base older) run c (Some act)
+      → run_over show (level show base older c) run c m ≡ level show base (run ∷ older) c m
+  level_acted known = (chosen (acts show (last_cue base older) run c) refl).0 known.acts_is
 
-pub level_passed : (show : Show) (base : ℕ) (run : Run) (older : List Run) (c m : ℕ) → acts show (last_cue base older) run c ≡ false
-    → level show base (run ∷ older) c m ≡ level show base older c m
-level_passed show base run older c m not_on = passed (acts show (last_cue base older) run c) _ _ not_on
+  -- over levels that are known from its start on
+  pub level_pushed : {act : Act} {low : ℕ} (before : ℕ → ℕ) → IsKnown show (last_cue base older) run c (Some act)
+      → ((y : ℕ) → low ≤ y → before y ≡ level show base older c y) → low ≤ run.start → low ≤ m
+      → act_over act before m ≡ level show base (run ∷ older) c m
+  level_pushed {act} {low} before known same started late = act_is before m known.act
+      ∙ same_run show before (level show base older c) run c low m same started late ∙ level_acted known
 
--- on one on which it acts, whose fade is over
-pub level_hidden : (show : Show) (base : ℕ) (run : Run) (older : List Run) (c m : ℕ) → acts show (last_cue base older) run c ≡ true
-    → run.start + entry_extent (entry_for show run c) ≤ m → level show base (run ∷ older) c m ≡ tracked show run.cue c
-level_hidden show base run older c m on over = level_acted show base run older c m on
-    ∙ run_done show (level show base older c) run c m over
-
--- and on one on which it acts, over levels that are known from its start on
-pub level_pushed : (show : Show) (base : ℕ) (run : Run) (older : List Run) (c low m : ℕ) (before : ℕ → ℕ)
-    → acts show (last_cue base older) run c ≡ true → ((y : ℕ) → low ≤ y → before y ≡ level show base older c y) → low ≤ run.start → low ≤ m
-    → run_over show before run c m ≡ level show base (run ∷ older) c m
-level_pushed show base run older c low m before on known started late =
-    same_run show before (level show base older c) run c low m known started late
-    ∙ sym (level_acted show base run older c m on)
+  -- where its act is over
+  pub level_hidden : {act : Act} → IsKnown show (last_cue base older) run c (Some act) → act.start + entry_extent act.entry ≤ m
+      → act.target ≡ level show base (run ∷ older) c m
+  level_hidden {act} known over = sym (act_done act (level show base older c) m over) ∙ act_is (level show base older c) m known.act
+      ∙ level_acted known

@@ -8,11 +8,13 @@ pub use Rattle.lx_fade.proofs.Rows.{drop-stack_column, in_block, newest_begun, n
 pub use Rattle.lx_fade.specs.Fades.{Fade, pushed, stack_at}
 pub use Rattle.lx_fade.specs.Row.{no_fade, stack_column}
 pub use Rattle.lx_fade.specs.declared.held.TheConstants.{NEVER}
-pub use Rattle.lx_levels.specs.CurrentFades.{AreAt, Governs, IsAdvanced, IsHeld, IsRightAt, IsRightBut, IsStill, IsTold, IsWritten, LevelsReach, no_current}
-pub use Rattle.lx_levels.specs.CurrentFades.{StaysUntil}
+pub use Rattle.lx_levels.specs.CurrentFades.{AreAt, Governs, IsAdvanced, IsHeld, IsRight, IsRightAt, IsRightBut, IsStill, IsTold, IsWritten, LevelsReach}
+pub use Rattle.lx_levels.specs.CurrentFades.{no_current, Place, place_of, StaysUntil}
 pub use Rattle.lx_levels.specs.LevelsMeaning.{IsAdded, IsElsewhere, LevelsStandFor, StackStandsAt, StandsBefore}
-pub use Rattle.lx_levels.specs.RunsInTurn.{AreKnown, EachAct, IsGround, IsKnown, IsReplayed, IsValid}
+pub use Rattle.lx_levels.specs.Acts.{act_over, IsKnown, IsOf, IsValid}
+pub use Rattle.lx_levels.specs.RunsInTurn.{AreKnown, EachAct, IsGround, IsReplayed}
 pub use Rattle.lx_levels.specs.Stacks.{kept_stack, KeptLevels, level_at, no_stack, Stack, stack_level}
+pub use Rattle.lx_levels.specs.declared.motion.Motion.{Motion}
 pub use Rattle.lx_levels.specs.declared.replay.Act.{Act}
 pub use Rattle.lx_playback.specs.Valid.{OldestFirst, ValidRun, ValidTimes}
 pub use Rattle.lx_sheet.specs.Rows.{level_of, Sheet}

@@ -1,10 +1,11 @@
 -- Which fade gives a channel's level, and how long that stays.
-use Rattle.std.specs.Prelude.{◌≡◌, ◌≢◌, ◌⊎◌, ℕ, ◌+◌, ◌<◌, ◌≤◌, Option, List, length, slice_index, slice_index_or}
+use Rattle.std.specs.Prelude.{◌≡◌, ◌≢◌, ◌⊎◌, ℕ, ◌+◌, ◌<◌, ◌≤◌, Option, List, length, slice_index, slice_index_or, slice_set}
 use Rattle.lx_base.specs.declared.TheConstants.{CHANNELS, RUNS}
 use Rattle.lx_fade.specs.Fades.{fade_at}
 use Rattle.lx_fade.specs.declared.held.TheConstants.{NEVER}
 use Rattle.lx_levels.specs.declared.current.Current.{Current}
 use Rattle.lx_levels.specs.declared.hints.Hint.{Hint}
+use Rattle.lx_levels.specs.declared.motion.Motion.{Motion}
 use Rattle.lx_levels.specs.declared.replay.Act.{Act}
 use Rattle.lx_levels.specs.Stacks.{Stack, stack_level, no_stack}
 
@@ -29,59 +30,70 @@ StaysUntil m stack level until = (x : ℕ) → m ≤ x → (x < until) ⊎ (unti
 abbrev pub no_current : Current
 no_current = record { fade = record { start = 0; time = 0; from = 0; target = 0 }; wake = 0 }
 
+-- what is kept of a channel: the fade that governs, the level, and the moment up to which it is held
+pub record Place : Type 0 where
+  pub current : Current
+  pub level : ℕ
+  pub hold : ℕ
+
+abbrev pub place_of : Motion → ℕ → Place
+place_of motion k = record {
+  current = slice_index_or motion.currents.items k no_current;
+  level = slice_index motion.levels.items k;
+  hold = slice_index motion.holds.items k;
+}
+
 -- At the moment, a channel has a level that stays until the moment up to which it is held, and a fade that governs, if it is not held for
 -- ever. Where that moment has come, only the fade is known.
-pub record IsHeld (m : ℕ) (stacks : List Stack) (currents : List Current) (levels holds : List ℕ) (k : ℕ) : Type 0 where
-  pub governs : slice_index holds k ≢ NEVER → Governs m (slice_index_or stacks k no_stack) (slice_index_or currents k no_current)
-  pub stays : StaysUntil m (slice_index_or stacks k no_stack) (slice_index levels k) (slice_index holds k)
+pub record IsHeld (m : ℕ) (stack : Stack) (place : Place) : Type 0 where
+  pub governs : place.hold ≢ NEVER → Governs m stack place.current
+  pub stays : StaysUntil m stack place.level place.hold
 
 -- and that moment is a later one
-pub record IsTold (m : ℕ) (stacks : List Stack) (currents : List Current) (levels holds : List ℕ) (k : ℕ) : Type 0 where
-  pub held : IsHeld m stacks currents levels holds k
-  pub later : m < slice_index holds k
+pub record IsTold (m : ℕ) (stack : Stack) (place : Place) : Type 0 where
+  pub held : IsHeld m stack place
+  pub later : m < place.hold
 
--- a place for each channel, of which there are not too many
-pub record LevelsReach (stacks : List Stack) (currents : List Current) (levels holds : List ℕ) : Type 0 where
-  pub few : length stacks ≤ CHANNELS
-  pub of_currents : length currents ≡ length stacks
-  pub of_levels : length levels ≡ length stacks
-  pub of_holds : length holds ≡ length stacks
+-- a place for each of so many channels, which are not too many
+pub record LevelsReach (channels : ℕ) (motion : Motion) : Type 0 where
+  pub few : channels ≤ CHANNELS
+  pub of_currents : length motion.currents.items ≡ channels
+  pub of_levels : length motion.levels.items ≡ channels
+  pub of_holds : length motion.holds.items ≡ channels
 
--- each channel is told at the moment
-pub record IsRightAt (m : ℕ) (stacks : List Stack) (currents : List Current) (levels holds : List ℕ) : Type 0 where
-  pub reaches : LevelsReach stacks currents levels holds
+-- the channel is told at the moment, and is held for no less than that of all
+pub record IsRight (m : ℕ) (stacks : List Stack) (motion : Motion) (k : ℕ) : Type 0 where
+  pub told : IsTold m (slice_index_or stacks k no_stack) (place_of motion k)
+  pub due : motion.due ≤ slice_index motion.holds.items k
+
+-- so it is of each channel
+pub record IsRightAt (m : ℕ) (stacks : List Stack) (motion : Motion) : Type 0 where
+  pub reaches : LevelsReach (length stacks) motion
   pub begun : m + 1 < NEVER
-  pub told : (k : ℕ) → k < length stacks → IsTold m stacks currents levels holds k
-
--- no channel is held for less than that
-abbrev pub AreHeld : ℕ → List ℕ → Type 0
-AreHeld due holds = (k : ℕ) → k < length holds → due ≤ slice_index holds k
+  pub each : (k : ℕ) → k < length stacks → IsRight m stacks motion k
 
 -- and there are a hint and an act for each run that may be live
-pub record IsReadyAt (m due : ℕ) (stacks : List Stack) (currents : List Current) (levels holds : List ℕ) (hints : List Hint)
-    (acts : List (Option Act)) : Type 0 where
-  pub right : IsRightAt m stacks currents levels holds
-  pub due_is : AreHeld due holds
+pub record IsReadyAt (m : ℕ) (stacks : List Stack) (motion : Motion) (hints : List Hint) (acts : List (Option Act)) : Type 0 where
+  pub right : IsRightAt m stacks motion
   pub room : length hints ≡ RUNS
   pub acts_room : length acts ≡ RUNS
 
--- the same but for the channel at one place
-pub record IsRightBut (m place : ℕ) (stacks : List Stack) (currents : List Current) (levels holds : List ℕ) : Type 0 where
-  pub reaches : LevelsReach stacks currents levels holds
-  pub told : (k : ℕ) → k < length stacks → k ≢ place → IsTold m stacks currents levels holds k
+-- so it is but for the channel at one place
+pub record IsRightBut (m place : ℕ) (stacks : List Stack) (motion : Motion) : Type 0 where
+  pub reaches : LevelsReach (length stacks) motion
+  pub begun : m + 1 < NEVER
+  pub within : place < length stacks
+  pub each : (k : ℕ) → k < length stacks → k ≢ place → IsRight m stacks motion k
 
--- one channel's fade and level were written
-pub record IsWritten (place : ℕ) (currents_before : List Current) (levels_before holds_before : List ℕ) (currents : List Current)
-    (levels holds : List ℕ) : Type 0 where
-  pub of_currents : length currents ≡ length currents_before
-  pub of_levels : length levels ≡ length levels_before
-  pub of_holds : length holds ≡ length holds_before
-  pub currents_other : (k : ℕ) → k ≢ place → slice_index_or currents k no_current ≡ slice_index_or currents_before k no_current
-  pub levels_other : (k : ℕ) → k ≢ place → slice_index levels k ≡ slice_index levels_before k
-  pub holds_other : (k : ℕ) → k ≢ place → slice_index holds k ≡ slice_index holds_before k
+-- what is kept of one channel was written
+pub record IsWritten (k : ℕ) (before after : Motion) : Type 0 where
+  pub place : Place
+  pub currents : after.currents.items ≡ slice_set before.currents.items k place.current
+  pub levels : after.levels.items ≡ slice_set before.levels.items k place.level
+  pub holds : after.holds.items ≡ slice_set before.holds.items k place.hold
 
 -- the channels before a place have been brought to the moment
-pub record IsAdvanced (m place : ℕ) (stacks : List Stack) (currents : List Current) (levels holds : List ℕ) : Type 0 where
-  pub reaches : LevelsReach stacks currents levels holds
-  pub done : (k : ℕ) → k < place → IsTold m stacks currents levels holds k
-  pub left : (k : ℕ) → place ≤ k → k < length stacks → IsHeld m stacks currents levels holds k
+pub record IsAdvanced (m place : ℕ) (stacks : List Stack) (motion : Motion) : Type 0 where
+  pub reaches : LevelsReach (length stacks) motion
+  pub done : (k : ℕ) → k < place → IsTold m (slice_index_or stacks k no_stack) (place_of motion k)
+  pub left : (k : ℕ) → place ≤ k → k < length stacks → IsHeld m (slice_index_or stacks k no_stack) (place_of motion k)

@@ -31,9 +31,9 @@ pub record IsElsewhere (place : ℕ) (before after : KeptLevels) : Type 0 where
   pub reach : length after.stacks ≡ length before.stacks
   pub others : (k : ℕ) → k ≢ place → kept_stack after k ≡ kept_stack before k
 
--- this many channels stand for the playback already, the others for it as it was before its last run
-pub record IsAdded (show : Show) (p : Playback) (older : List Run) (n : ℕ) (kept : KeptLevels) : Type 0 where
-  pub moment : kept.moment ≡ p.moment
-  pub reach : length kept.stacks ≡ show.channels
+-- this many channels stand for the playback, which has another run, and the others are as they were before it
+pub record IsAdded (show : Show) (p : Playback) (n : ℕ) (before kept : KeptLevels) : Type 0 where
+  pub moment : kept.moment ≡ before.moment
+  pub reach : length kept.stacks ≡ length before.stacks
   pub done : (k : ℕ) → k < n → StackStandsAt show p kept k
-  pub left : (k : ℕ) → n ≤ k → k < show.channels → StackStandsAt show (record p { live = older }) kept k
+  pub left : (k : ℕ) → n ≤ k → kept_stack kept k ≡ kept_stack before k

@@ -2,5 +2,5 @@ pub mod Stacks
 pub mod Columns
 pub mod CurrentFades
 pub mod LevelsMeaning
-pub mod TimedFades
+pub mod Acts
 pub mod RunsInTurn

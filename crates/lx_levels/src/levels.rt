@@ -6,23 +6,23 @@ ghost use Rattle.std.specs.Option.{option_copied, option_map_or};
 ghost use Rattle.lx_io.specs.Causes.{HasCause};
 ghost use Rattle.lx_base.specs.declared.TheConstants.{RUNS, LANES, TICK_END};
 ghost use Rattle.lx_spec.specs.Show.{Show as ShowData, Valid};
-ghost use Rattle.lx_spec.specs.TrackedLevel.{tracked};
 ghost use Rattle.lx_spec.specs.Run.{Run as RunData};
-ghost use Rattle.lx_spec.specs.Level.{level, last_cue, run_over};
+ghost use Rattle.lx_spec.specs.Level.{level, last_cue};
 ghost use Rattle.lx_spec.specs.Playback.{Playback as PlaybackData, at_opening};
 ghost use Rattle.lx_sheet.specs.SheetMeaning.{RowsStandFor};
 ghost use Rattle.lx_mixer.specs.Table.{IsTable};
 ghost use Rattle.lx_playback.specs.Valid.{ValidRun};
 ghost use Rattle.lx_levels.specs.Stacks.{stack_level, level_at, kept_stack};
 ghost use Rattle.lx_levels.specs.CurrentFades.{AreAt, IsStill};
+ghost use Rattle.lx_levels.specs.Acts.{IsValid, act_over};
 ghost use Rattle.lx_levels.specs.LevelsMeaning.{LevelsStandFor, StackStandsAt, StandsBefore, IsElsewhere};
 
-use crate::channel::push_run;
+use crate::channel::push_act;
 use crate::current::Current;
-use crate::hints::{Hint, NO_HINT, acts};
-use crate::motion::{advance, refresh};
+use crate::hints::{Hint, NO_HINT};
+use crate::motion::Motion;
 use crate::racks::Racks;
-use crate::replay::{Act, ground_of, replay};
+use crate::replay::{Act, act_of, ground_of, replay};
 use lx_base::{Chan, CueNo, LANES, Level, Moment, RUNS};
 use lx_fade::NEVER;
 use lx_io::{Heap, SystemHeap, filled};
@@ -41,13 +41,7 @@ pub struct Levels {
     moment: Moment,
     /// The fades of each channel.
     stacks: Racks,
-    /// The fade that governs each channel, where its level changes yet.
-    currents: Vec<Current>,
-    levels: Vec<Level>,
-    /// The moment up to which each level stays: `NEVER` where it changes no more.
-    holds: Vec<Moment>,
-    /// No level changes before this moment.
-    due: Moment,
+    motion: Motion,
     /// Where the cue of each live run, and a channel's move in it, was found last.
     hints: Vec<Hint>,
     /// What each live run does to the channel that is being made again.
@@ -62,8 +56,7 @@ impl Model for Levels {
 
     ghost view = { λ l. record { moment = l.moment; stacks = l.stacks } };
 
-    ghost invariant = { λ l. IsReadyAt l.moment l.due l.stacks l.currents.items l.levels.items l.holds.items l.hints.items
-        l.acts.items };
+    ghost invariant = { λ l. IsReadyAt l.moment l.stacks l.motion l.hints.items l.acts.items };
 }
 
 impl Levels {
@@ -89,10 +82,12 @@ impl Levels {
         Ok(Levels {
             moment: 0,
             stacks: Racks::open(heap, channels)?,
-            currents: filled(heap, Current::still(0, NEVER), channels)?,
-            levels: filled(heap, 0, channels)?,
-            holds: filled(heap, NEVER, channels)?,
-            due: NEVER,
+            motion: Motion {
+                currents: filled(heap, Current::still(0, NEVER), channels)?,
+                levels: filled(heap, 0, channels)?,
+                holds: filled(heap, NEVER, channels)?,
+                due: NEVER,
+            },
             hints: filled(heap, NO_HINT, RUNS)?,
             acts: filled(heap, None, RUNS)?,
         })
@@ -105,7 +100,7 @@ impl Levels {
         ensures stands { (show : ShowData) (p : PlaybackData) → LevelsStandFor show p self.now
             → IsTable show.channels (λ c. level show p.base p.live c p.moment) result.now }
     {
-        self.levels.as_slice()
+        self.motion.levels.as_slice()
     }
 
     /// The playback has another run, which starts at its moment. The levels stood for the playback before
@@ -131,8 +126,8 @@ impl Levels {
             }
             let target = level_on(to, k);
             let c = Chan::at(k);
-            if acts(show, run, c, level_on(from, k), target, &mut hint) {
-                self.add_run(show, run, c, target);
+            if let Some(act) = act_of(show, run, c, level_on(from, k), target, &mut hint) {
+                self.add_run(k, &act);
             }
             k += 1;
         }
@@ -147,7 +142,7 @@ impl Levels {
     {
         let base = playback.base();
         let mut near = 0;
-        for k in 0..self.levels.len() {
+        for k in 0..self.motion.levels.len() {
             self.restart(k, sheet.level_near(base, Chan::at(k), &mut near));
         }
     }
@@ -162,18 +157,10 @@ impl Levels {
         ensures unchanged { result ≡ false → (k : ℕ) → k < length self.old.stacks → level_at self.new k ≡ level_at self.old k }
     {
         self.moment = m;
-        if m < self.due {
+        if m < self.motion.due {
             return false;
         }
-        let step = advance(
-            m,
-            &self.stacks,
-            &mut self.currents,
-            &mut self.levels,
-            &mut self.holds,
-        );
-        self.due = step.due;
-        step.changed
+        self.motion.advance(m, &self.stacks)
     }
 
     /// The level and the fades of one channel are made again from the live runs; every other channel is
@@ -198,15 +185,7 @@ impl Levels {
             &mut self.acts,
         );
         replay(&mut self.stacks, k, live, &self.acts, oldest);
-        refresh(
-            k,
-            self.moment,
-            &self.stacks,
-            &mut self.currents,
-            &mut self.levels,
-            &mut self.holds,
-            &mut self.due,
-        );
+        self.motion.refresh(k, self.moment, &self.stacks);
     }
 }
 
@@ -216,7 +195,7 @@ impl Levels {
         requires { k < length self.now.stacks }
         ensures { result ≡ true → IsStill self.now.moment (kept_stack self.now k) level }
     {
-        self.levels[k] == level && self.holds[k] == NEVER
+        self.motion.levels[k] == level && self.motion.holds[k] == NEVER
     }
 
     /// How many channels from this one on are at their level of the look for ever, as far as is looked: a block of lanes, this one, or none.
@@ -247,34 +226,26 @@ impl Levels {
             → IsStill self.now.moment (kept_stack self.now i) (option_map_or (λ row. slice_index row.now i) look.entry 0) }
     {
         match look {
-            Some(row) if at + LANES <= row.len() => block_is_at(&self.levels, &self.holds, row, at),
+            Some(row) if at + LANES <= row.len() => {
+                block_is_at(&self.motion.levels, &self.motion.holds, row, at)
+            }
             _ => false,
         }
     }
 
-    /// The fade of the run on the channel, on which it acts.
-    fn add_run(&mut self, show: &Show, run: &Run, c: Chan, target: Level)
-        requires within { c ≤ length self.old.stacks }
-        requires target { target ≡ tracked show.now run.now.cue c }
-        requires room { length (kept_stack self.old (c - 1)).fades < RUNS }
-        requires run { ValidRun TICK_END run.now }
-        requires started { run.now.start ≤ self.old.moment }
-        ensures level { (x : ℕ) → self.old.moment ≤ x → stack_level (kept_stack self.new (c - 1)) x
-            ≡ run_over show.now (stack_level (kept_stack self.old (c - 1))) run.now c x }
-        ensures few { length (kept_stack self.new (c - 1)).fades ≤ length (kept_stack self.old (c - 1)).fades + 1 }
-        ensures others { IsElsewhere (c - 1) self.old self.new }
+    /// The fade of a run on the channel at a place, on which it acts.
+    fn add_run(&mut self, k: usize, act: &Act)
+        requires within { k < length self.old.stacks }
+        requires room { length (kept_stack self.old k).fades < RUNS }
+        requires valid { IsValid act.now }
+        requires started { act.now.start ≤ self.old.moment }
+        ensures level { (x : ℕ) → self.old.moment ≤ x → stack_level (kept_stack self.new k) x
+            ≡ act_over act.now (stack_level (kept_stack self.old k)) x }
+        ensures few { length (kept_stack self.new k).fades ≤ length (kept_stack self.old k).fades + 1 }
+        ensures others { IsElsewhere k self.old self.new }
     {
-        let k = c.get() as usize - 1;
-        push_run(&mut self.stacks, k, show, run, c, target);
-        refresh(
-            k,
-            self.moment,
-            &self.stacks,
-            &mut self.currents,
-            &mut self.levels,
-            &mut self.holds,
-            &mut self.due,
-        );
+        push_act(&mut self.stacks, k, act);
+        self.motion.refresh(k, self.moment, &self.stacks);
     }
 
     /// No fade on the channel at a place.
@@ -283,15 +254,7 @@ impl Levels {
         ensures { self.new ≡ record self.old { stacks = slice_set self.old.stacks k (record { bottom = bottom; fades = [] }) } }
     {
         self.stacks.restart(k, bottom);
-        refresh(
-            k,
-            self.moment,
-            &self.stacks,
-            &mut self.currents,
-            &mut self.levels,
-            &mut self.holds,
-            &mut self.due,
-        );
+        self.motion.refresh(k, self.moment, &self.stacks);
     }
 }
 

@@ -3,96 +3,94 @@
 ghost use Rattle.std.specs.Prelude.{◌≡◌, ℕ, ◌+◌, ◌<◌, ◌≤◌, false, List, length, slice_index, slice_index_or};
 ghost use Rattle.lx_fade.specs.declared.held.TheConstants.{NEVER};
 ghost use Rattle.lx_levels.specs.Stacks.{no_stack};
-ghost use Rattle.lx_levels.specs.CurrentFades.{Governs, LevelsReach, AreHeld, IsHeld, IsTold, IsRightAt, IsRightBut, IsWritten};
+ghost use Rattle.lx_levels.specs.CurrentFades.{Governs, LevelsReach, IsHeld, IsTold, IsRightAt, IsRightBut, IsWritten, place_of};
 
 use crate::current::Current;
 use crate::racks::Racks;
 use lx_base::{Level, Moment};
 use lx_fade::NEVER;
 
-/// What came of a step to another moment.
-#[derive(Clone, Copy)]
+/// Each channel's level, and how it moves.
+#[derive(Drop)]
 pub(crate) struct Motion {
-    /// Some level changed.
-    pub(crate) changed: bool,
-    /// No channel's level changes before this moment.
+    /// The fade that governs each channel, where its level changes yet.
+    pub(crate) currents: Vec<Current>,
+    pub(crate) levels: Vec<Level>,
+    /// The moment up to which each level stays: `NEVER` where it changes no more.
+    pub(crate) holds: Vec<Moment>,
+    /// No level changes before this moment.
     pub(crate) due: Moment,
 }
 
-/// Brings the channels to the moment: those that are held until later are there already.
-pub(crate) fn advance(
-    m: Moment,
-    stacks: &Racks,
-    currents: &mut Vec<Current>,
-    levels: &mut Vec<Level>,
-    holds: &mut Vec<Moment>,
-) -> Motion
-    requires reaches { LevelsReach stacks.now currents.old.items levels.old.items holds.old.items }
-    requires moment { m + 1 < NEVER }
-    requires held { (k : ℕ) → k < length stacks.now → IsHeld m stacks.now currents.old.items levels.old.items holds.old.items k }
-    ensures right { IsRightAt m stacks.now currents.new.items levels.new.items holds.new.items }
-    ensures due { AreHeld result.due holds.new.items }
-    ensures unchanged { result.changed ≡ false → (k : ℕ) → k < length stacks.now
-        → slice_index levels.new.items k ≡ slice_index levels.old.items k }
-{
-    let mut changed = false;
-    let mut due = NEVER;
-    for k in 0..holds.len() {
-        changed |= bring(k, m, stacks, currents, levels, holds);
-        due = due.min(holds[k]);
+impl Motion {
+    /// Brings the channels to the moment; answers whether a level changed. Those that are held until later are there already.
+    pub(crate) fn advance(&mut self, m: Moment, stacks: &Racks) -> bool
+        requires moment { m + 1 < NEVER }
+        requires reaches { LevelsReach (length stacks.now) self.old }
+        requires held { (k : ℕ) → k < length stacks.now → IsHeld m (slice_index_or stacks.now k no_stack) (place_of self.old k) }
+        ensures right { IsRightAt m stacks.now self.new }
+        ensures unchanged { result ≡ false → (k : ℕ) → k < length stacks.now
+            → slice_index self.new.levels.items k ≡ slice_index self.old.levels.items k }
+    {
+        let mut changed = false;
+        let mut due = NEVER;
+        for k in 0..self.holds.len() {
+            changed |= self.bring(k, m, stacks);
+            due = due.min(self.holds[k]);
+        }
+        self.due = due;
+        changed
     }
-    Motion { changed, due }
-}
 
-/// Brings a channel to the moment; answers whether its level changed. One that is held until later is there already.
-#[inline(always)]
-fn bring(
-    k: usize,
-    m: Moment,
-    stacks: &Racks,
-    currents: &mut Vec<Current>,
-    levels: &mut Vec<Level>,
-    holds: &mut Vec<Moment>,
-) -> bool
-    requires moment { m + 1 < NEVER }
-    requires within { k < length stacks.now }
-    requires reaches { LevelsReach stacks.now currents.old.items levels.old.items holds.old.items }
-    requires held { IsHeld m stacks.now currents.old.items levels.old.items holds.old.items k }
-    ensures told { IsTold m stacks.now currents.new.items levels.new.items holds.new.items k }
-    ensures others { IsWritten k currents.old.items levels.old.items holds.old.items currents.new.items levels.new.items holds.new.items }
-    ensures unchanged { result ≡ false → slice_index levels.new.items k ≡ slice_index levels.old.items k }
-{
-    if m < holds[k] {
-        return false;
+    /// Brings a channel to the moment; answers whether its level changed. One that is held until later is there already.
+    #[inline(always)]
+    fn bring(&mut self, k: usize, m: Moment, stacks: &Racks) -> bool
+        requires moment { m + 1 < NEVER }
+        requires within { k < length stacks.now }
+        requires reaches { LevelsReach (length stacks.now) self.old }
+        requires held { IsHeld m (slice_index_or stacks.now k no_stack) (place_of self.old k) }
+        ensures told { IsTold m (slice_index_or stacks.now k no_stack) (place_of self.new k) }
+        ensures others { IsWritten k self.old self.new }
+        ensures unchanged { result ≡ false → slice_index self.new.levels.items k ≡ slice_index self.old.levels.items k }
+    {
+        if m < self.holds[k] {
+            return false;
+        }
+        self.bring_on(k, m, stacks)
     }
-    bring_on(k, m, stacks, currents, levels, holds)
-}
 
-/// The same at the moment up to which it was held, or a later one.
-fn bring_on(
-    k: usize,
-    m: Moment,
-    stacks: &Racks,
-    currents: &mut Vec<Current>,
-    levels: &mut Vec<Level>,
-    holds: &mut Vec<Moment>,
-) -> bool
-    requires moment { m + 1 < NEVER }
-    requires within { k < length stacks.now }
-    requires reaches { LevelsReach stacks.now currents.old.items levels.old.items holds.old.items }
-    requires due { slice_index holds.old.items k ≤ m }
-    requires held { IsHeld m stacks.now currents.old.items levels.old.items holds.old.items k }
-    ensures told { IsTold m stacks.now currents.new.items levels.new.items holds.new.items k }
-    ensures others { IsWritten k currents.old.items levels.old.items holds.old.items currents.new.items levels.new.items holds.new.items }
-    ensures unchanged { result ≡ false → slice_index levels.new.items k ≡ slice_index levels.old.items k }
-{
-    let current = &mut currents[k];
-    wake(current, stacks, k, m);
-    let held = current.held(m);
-    let changed = levels[k] != held.level;
-    levels[k] = held.level;
-    holds[k] = held.until;
-    changed
+    /// The same at the moment up to which it was held, or a later one.
+    fn bring_on(&mut self, k: usize, m: Moment, stacks: &Racks) -> bool
+        requires moment { m + 1 < NEVER }
+        requires within { k < length stacks.now }
+        requires reaches { LevelsReach (length stacks.now) self.old }
+        requires due { slice_index self.old.holds.items k ≤ m }
+        requires held { IsHeld m (slice_index_or stacks.now k no_stack) (place_of self.old k) }
+        ensures told { IsTold m (slice_index_or stacks.now k no_stack) (place_of self.new k) }
+        ensures others { IsWritten k self.old self.new }
+        ensures unchanged { result ≡ false → slice_index self.new.levels.items k ≡ slice_index self.old.levels.items k }
+    {
+        let current = &mut self.currents[k];
+        wake(current, stacks, k, m);
+        let held = current.held(m);
+        let changed = self.levels[k] != held.level;
+        self.levels[k] = held.level;
+        self.holds[k] = held.until;
+        changed
+    }
+
+    /// Takes up the stack of the channel at a place.
+    pub(crate) fn refresh(&mut self, k: usize, m: Moment, stacks: &Racks)
+        requires { IsRightBut m k stacks.now self.old }
+        ensures { IsRightAt m stacks.now self.new }
+    {
+        let current = stacks.governing(k, m);
+        let held = current.held(m);
+        self.currents[k] = current;
+        self.levels[k] = held.level;
+        self.holds[k] = held.until;
+        self.due = self.due.min(held.until);
+    }
 }
 
 /// Takes up the fade that governs at the moment, where the one before did so up to there.
@@ -107,31 +105,4 @@ fn wake(current: &mut Current, stacks: &Racks, k: usize, m: Moment)
     if current.wake <= m {
         *current = stacks.governing(k, m);
     }
-}
-
-/// Takes up the stack of the channel at a place.
-pub(crate) fn refresh(
-    k: usize,
-    m: Moment,
-    stacks: &Racks,
-    currents: &mut Vec<Current>,
-    levels: &mut Vec<Level>,
-    holds: &mut Vec<Moment>,
-    due: &mut Moment,
-)
-    requires moment { m + 1 < NEVER }
-    requires within { k < length stacks.now }
-    requires currents { k < length currents.old.items }
-    requires levels { k < length levels.old.items }
-    requires holds { k < length holds.old.items }
-    ensures right { IsRightBut m k stacks.now currents.old.items levels.old.items holds.old.items
-        → IsRightAt m stacks.now currents.new.items levels.new.items holds.new.items }
-    ensures due { AreHeld due.old holds.old.items → AreHeld due.new holds.new.items }
-{
-    let current = stacks.governing(k, m);
-    let held = current.held(m);
-    currents[k] = current;
-    levels[k] = held.level;
-    holds[k] = held.until;
-    *due = (*due).min(held.until);
 }

@@ -24,12 +24,17 @@ use std::marker::Model;
 #[derive(Drop)]
 pub(crate) struct Racks {
     channels: usize,
-    /// The level below the fades of each channel.
-    bottoms: Vec<Level>,
-    /// How many fades each channel has.
-    counts: Vec<u16>,
+    /// What each channel's fades stand on.
+    feet: Vec<Foot>,
     /// Fade j of the channel at place k stands at j * channels + k.
     fades: Vec<Fade>,
+}
+
+/// The level below a channel's fades, and how many they are.
+#[derive(Clone, Copy)]
+struct Foot {
+    bottom: Level,
+    count: u16,
 }
 
 impl Model for Racks {
@@ -39,9 +44,9 @@ impl Model for Racks {
 
     ghost Value = { List StackData };
 
-    ghost view = { λ r. stacks_of r.channels r.bottoms.items r.counts.items r.fades.items };
+    ghost view = { λ r. stacks_of r.channels r.feet.items r.fades.items };
 
-    ghost invariant = { λ r. IsLaidOut r.channels r.bottoms.items r.counts.items r.fades.items (vec_capacity r.fades) };
+    ghost invariant = { λ r. IsLaidOut r.channels r.feet.items r.fades.items (vec_capacity r.fades) };
 }
 
 /// A fade of no use, in whose place another is written.
@@ -60,13 +65,15 @@ impl Racks {
         ensures empty { IfOk result (λ racks. (k : ℕ) → slice_index_or racks k no_stack ≡ no_stack) }
         ensures cause { HasCause (H.refusals heap.old) (H.refusals heap.new) result }
     {
-        let bottoms = filled(heap, 0, channels)?;
-        let counts = filled(heap, 0, channels)?;
+        let nothing = Foot {
+            bottom: 0,
+            count: 0,
+        };
+        let feet = filled(heap, nothing, channels)?;
         let fades = heap.room(RUNS * channels)?;
         Ok(Racks {
             channels,
-            bottoms,
-            counts,
+            feet,
             fades,
         })
     }
@@ -76,8 +83,7 @@ impl Racks {
         requires { k < length self.old }
         ensures { self.new ≡ slice_set self.old k (record { bottom = bottom; fades = [] }) }
     {
-        self.bottoms[k] = bottom;
-        self.counts[k] = 0;
+        self.feet[k] = Foot { bottom, count: 0 };
     }
 
     /// The fade on this many of the channel's oldest ones, which are kept.
@@ -90,7 +96,7 @@ impl Racks {
             { fades = fade ∷ drop (length (slice_index_or self.old k no_stack).fades - kept) (slice_index_or self.old k no_stack).fades }) }
     {
         write(&mut self.fades, self.channels, k, kept, fade);
-        self.counts[k] = kept as u16 + 1;
+        self.feet[k].count = kept as u16 + 1;
     }
 
     /// The channel's level at a moment.
@@ -98,12 +104,13 @@ impl Racks {
         requires { k < length self.now }
         ensures { result ≡ stack_level (slice_index_or self.now k no_stack) m }
     {
+        let foot = self.feet[k];
         let at = Column {
             step: self.channels,
             first: k,
-            used: self.counts[k] as usize,
+            used: foot.count as usize,
         };
-        value_in(&self.fades, at, self.bottoms[k], m)
+        value_in(&self.fades, at, foot.bottom, m)
     }
 
     /// Pushes a fade to the target that begins at `start` from the level there: the fades that would begin later are
@@ -118,12 +125,13 @@ impl Racks {
         ensures few { length (slice_index_or self.new k no_stack).fades ≤ length (slice_index_or self.old k no_stack).fades + 1 }
         ensures others { self.new ≡ slice_set self.old k (slice_index_or self.new k no_stack) }
     {
+        let foot = self.feet[k];
         let at = Column {
             step: self.channels,
             first: k,
-            used: self.counts[k] as usize,
+            used: foot.count as usize,
         };
-        let push = push_in(&self.fades, at, self.bottoms[k], start, time, target);
+        let push = push_in(&self.fades, at, foot.bottom, start, time, target);
         self.put(k, push.kept, push.fade);
     }
 
@@ -134,8 +142,15 @@ impl Racks {
         ensures governs { Governs m (slice_index_or self.now k no_stack) result }
         ensures wake { m < result.wake }
     {
-        let count = self.counts[k] as usize;
-        governing_in(&self.fades, self.channels, k, count, self.bottoms[k], m)
+        let foot = self.feet[k];
+        governing_in(
+            &self.fades,
+            self.channels,
+            k,
+            foot.count as usize,
+            foot.bottom,
+            m,
+        )
     }
 }
 

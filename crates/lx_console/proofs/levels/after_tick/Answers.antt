@@ -12,14 +12,12 @@ returns-then-ticked-clause-stands c = c.settled.ensures c.args.show.now
 
 pub run_added-requires-clause-stood : goal.run_added-requires-clause-stood
 run_added-requires-clause-stood c =
-    stands_started c.args.show.now c.args.playback.now c.requires.ticked.before c.moment.result c.to_moment-changed.new.self
-    c.moment.ensures.moment
+    stands_started c.moment.ensures.moment
     (c.to_moment-changed.ensures.stands c.args.show.now c.requires.ticked.before c.requires.ticked.stood)
     (c.requires.ticked.started c.if-ticked.false (sym c.is_some.ensures ∙ c.if-is_some.true))
 
 pub returns-clause-stands : goal.returns-clause-stands
 returns-clause-stands c =
-    stands_same c.args.show.now c.args.playback.now c.requires.ticked.before c.moment.result c.to_moment-changed.new.self
-    c.moment.ensures.moment
+    stands_same c.moment.ensures.moment
     (c.to_moment-changed.ensures.stands c.args.show.now c.requires.ticked.before c.requires.ticked.stood)
     (c.requires.ticked.same c.if-ticked.false (sym c.is_some.ensures ∙ c.if-is_some.false))

@@ -1,18 +1,17 @@
-use Rattle.lx_levels.proofs.Imports.{◌≡◌, ◌+◌, ◌*◌, ◌<◌, length, set, suc, ap, ◌∙◌, arith, stack_column}
-use Rattle.lx_levels.proofs.Columns.{written_here, written_other}
+use Rattle.lx_levels.proofs.Imports.{◌+◌, ◌*◌, add-one, arith, refl, get_or-set_same, no_fade}
+use Rattle.lx_levels.proofs.Columns.{column_apart}
 use Rattle.lx_levels.proofs.racks.write.Goals as goal
 
-room : (c : goal.After-block-1) → c.args.kept * c.args.channels + c.args.k < length c.grow.new.block.items
-room c = omega (arith, c.grow.ensures.end, c.requires.within)
-
 pub returns-clause-here : goal.returns-clause-here
-returns-clause-here c =
-    let next : c.args.kept + 1 ≡ suc c.args.kept = omega arith in
-    ap (stack_column (set c.grow.new.block.items (c.args.kept * c.args.channels + c.args.k) c.args.fade) c.args.channels c.args.k) next
-    ∙ written_here c.args.block.now.items c.grow.new.block.items c.args.channels c.args.k c.args.kept c.args.fade c.requires.within
-    c.grow.ensures.same (room c)
+returns-clause-here c = rw (
+  add-one,
+  get_or-set_same c.grow.new.block.items (c.args.kept * c.args.channels + c.args.k) c.args.fade no_fade
+      (omega (arith, c.grow.ensures.end, c.requires.within)),
+  column_apart c.args.block.now.items c.grow.new.block.items c.args.channels c.args.k c.args.kept c.args.fade c.args.k c.args.kept
+      c.requires.within c.grow.ensures.same c.requires.within (λ j below same. absurd (omega (arith, below, same))),
+) refl
 
 pub returns-clause-others : goal.returns-clause-others
 returns-clause-others c = λ i n less other.
-    written_other c.args.block.now.items c.grow.new.block.items c.args.channels c.args.k c.args.kept c.args.fade c.requires.within
-    c.grow.ensures.same (room c) i n less other
+    column_apart c.args.block.now.items c.grow.new.block.items c.args.channels c.args.k c.args.kept c.args.fade i n c.requires.within
+    c.grow.ensures.same less (λ _ _ _. other)

@@ -1,9 +1,7 @@
-use Rattle.lx_console.proofs.Imports.{◌≡◌, ℕ, ◌+◌, List, inl, inr, arith, sym, ap, subst, rules, ◌∙◌, Show, Kept, planned, StackStandsAt}
-use Rattle.lx_console.proofs.Imports.{Changes}
-use Rattle.lx_edit.specs.Undone.{TakesBack}
+use Rattle.lx_console.proofs.Imports.{◌≡◌, ℕ, ◌+◌, List, inl, inr, arith, sym, ap, rules, ◌∙◌, Show, planned, StackStandsAt}
 use Rattle.lx_console.proofs.Apart.{placed_stands}
 use Rattle.lx_console.proofs.EditEffects.{in_show, untouched_levels, same_contributions, same_reach, same_channels}
-use Rattle.lx_console.proofs.OutputChanges.{planned_changes}
+use Rattle.lx_console.proofs.OutputChanges.{kept_in, planned_changes}
 use Rattle.lx_console.proofs.Obedience.{stands_planned}
 use Rattle.lx_console.proofs.player.Player.apply.Goals as goal
 
@@ -37,36 +35,20 @@ mend_subs-requires-clause-contributions c = same_contributions c.self.inside.sho
     c.self.inside.rack.faders c.self.inside.rack.contributions c.exchange-dirty.ensures.show c.exchange-dirty.ensures.subs c.self.invariant.subs
 
 pub returns-clause-undo : goal.returns-clause-undo
-returns-clause-undo c =
-    subst (λ (k : Kept). TakesBack k.show c.exchange-dirty.new.show c.exchange-dirty.result.undo) c.self.view_is
-    c.exchange-dirty.ensures.undo
+returns-clause-undo c = rw (← c.self.view_is) c.exchange-dirty.ensures.undo
 
 pub returns-clause-stands : goal.returns-clause-stands
 returns-clause-stands c = λ d stands.
-    let before : Kept = record {
-      show = c.self.inside.show;
-      playback = c.self.inside.playback;
-      faders = c.self.inside.rack.faders;
-      master = c.self.inside.master;
-    } in
-    stands_planned d c.args.plan before c.args.self.now
-    (record before { show = c.exchange-dirty.new.show; faders = c.mend_subs.new.rack.faders }) c.self.view_is
+    let before = kept_in c.self.inside in
+    stands_planned c.args.plan c.self.view_is
     (ap (λ (s : Show). record before { show = s; faders = c.mend_subs.new.rack.faders }) c.exchange-dirty.ensures.show
     ∙ ap (λ (f : List ℕ). record before { show = planned before.show c.args.plan; faders = f }) c.mend_subs.ensures.faders) stands
 
 pub returns-clause-changes : goal.returns-clause-changes
 returns-clause-changes c =
-    let before : Kept = record {
-      show = c.self.inside.show;
-      playback = c.self.inside.playback;
-      faders = c.self.inside.rack.faders;
-      master = c.self.inside.master;
-    } in
-    let after : Show = c.exchange-dirty.new.show in
     let of_exchange = c.exchange-dirty.ensures in
-    subst (λ (k : Kept). Changes c.of_edit.result k (record before { show = after; faders = c.mend_subs.new.rack.faders })) c.self.view_is
-    (subst (λ (f : List ℕ). Changes c.of_edit.result before (record before { show = after; faders = f })) (sym c.mend_subs.ensures.faders)
-    (planned_changes before after c.args.plan c.exchange-dirty.result.dirty c.self.inside.levels c.recompute_touched-leveled.new.levels
-    c.recompute_touched-leveled.result c.of_edit.result (search rules) of_exchange.show c.self.invariant.levels_stand
-    c.recompute_touched-leveled.ensures.stands c.recompute_touched-leveled.ensures.same of_exchange.dimmer of_exchange.subs
-    c.of_edit.ensures))
+    let touched = c.recompute_touched-leveled in
+    rw (← c.self.view_is, c.mend_subs.ensures.faders, of_exchange.show)
+    (planned_changes (kept_in c.self.inside) c.args.plan c.exchange-dirty.result.dirty c.self.inside.levels touched.new.levels
+    touched.result c.of_edit.result (search rules) c.self.invariant.levels_stand (rw of_exchange.show at touched.ensures.stands)
+    touched.ensures.same of_exchange.dimmer of_exchange.subs c.of_edit.ensures)

@@ -1,6 +1,6 @@
-use Rattle.lx_console.proofs.Imports.{ℕ, ◌<◌, ◌≡◌, ap, sym, subst, ◌∙◌, Playback, Kept, moments_later, level_at, LevelsStandFor, Change}
-use Rattle.lx_console.proofs.Imports.{Changes, of_levels, StandsFor}
-use Rattle.lx_console.proofs.OutputChanges.{played_changes}
+use Rattle.lx_console.proofs.Imports.{◌≡◌, ap, sym, subst, ◌∙◌, Playback, Kept, moments_later, LevelsStandFor}
+use Rattle.lx_console.proofs.Imports.{StandsFor}
+use Rattle.lx_console.proofs.OutputChanges.{kept_in, played_changes}
 use Rattle.lx_console.proofs.PassedTicks.{ticks_passed}
 use Rattle.lx_console.proofs.player.Player.pass.Goals as goal
 
@@ -26,29 +26,13 @@ invariant_of-self c = record {
 
 pub returns-clause-ticks : goal.returns-clause-ticks
 returns-clause-ticks c = λ d stands.
-    let k : Kept = record {
-      show = c.self.inside.show;
-      playback = c.self.inside.playback;
-      faders = c.self.inside.rack.faders;
-      master = c.self.inside.master;
-    } in
+    let k : Kept = kept_in c.self.inside in
     ticks_passed c.pass-ticks.result d k (record k { playback = c.pass-ticks.new.self })
     (subst (StandsFor d) (sym c.self.view_is) stands) c.pass-ticks.ensures.ticks
     (ap (λ (p : Playback). record k { playback = p }) c.pass-ticks.ensures.state)
 
 pub returns-clause-changes : goal.returns-clause-changes
-returns-clause-changes c =
-    let k : Kept = record {
-      show = c.self.inside.show;
-      playback = c.self.inside.playback;
-      faders = c.self.inside.rack.faders;
-      master = c.self.inside.master;
-    } in
-    let now : Kept = record k { playback = c.pass-ticks.new.self } in
-    let changed = c.to_moment-changed.result in
-    subst (λ (change : Change). Changes change c.args.self.now now) (sym c.of_levels.ensures)
-    (subst (λ (before : Kept). Changes (of_levels changed) before now) c.self.view_is
-    (played_changes k c.pass-ticks.new.self c.self.inside.levels c.to_moment-changed.new.self changed
-    c.self.invariant.levels_stand (stands c) (λ still.
-    subst (λ n. (i : ℕ) → i < n → level_at c.to_moment-changed.new.self i ≡ level_at c.self.inside.levels i)
-    c.self.invariant.levels_stand.reach (c.to_moment-changed.ensures.unchanged still))))
+returns-clause-changes c = rw (c.of_levels.ensures, ← c.self.view_is)
+    (played_changes (kept_in c.self.inside) c.pass-ticks.new.self c.self.inside.levels c.to_moment-changed.new.self c.to_moment-changed.result
+    c.self.invariant.levels_stand (stands c)
+    (λ still. rw c.self.invariant.levels_stand.reach at c.to_moment-changed.ensures.unchanged still))

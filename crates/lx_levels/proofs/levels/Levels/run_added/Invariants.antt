@@ -1,10 +1,10 @@
-use Rattle.lx_levels.proofs.Imports.{◌≡◌, ◌≤◌, ◌-◌, ◌∷◌, List, Run, IsAdded}
+use Rattle.lx_levels.proofs.Imports.{◌≤◌, ◌-◌, IsAdded}
 use Rattle.lx_levels.proofs.levels.Levels.run_added.Given as goal
 
 abbrev pub invariant-loop-k : goal.invariant-loop-k
 invariant-loop-k l = record {
   within : l.k ≤ l.channels;
-  added : (last : Run) (older : List Run) → l.playback.live ≡ last ∷ older → IsAdded l.show l.playback older l.k l.self;
+  added : IsAdded l.show l.playback l.k l.fn.self l.self;
 }
 
 abbrev pub decreases-loop-k : goal.decreases-loop-k

@@ -1,32 +1,15 @@
-use Rattle.lx_levels.proofs.Imports.{◌∙◌, sym, ap, arith, Stack, stack_level}
-use Rattle.lx_levels.proofs.Columns.{place_within, reach_there, stack_there}
+use Rattle.lx_levels.proofs.Imports.{arith}
+use Rattle.lx_levels.proofs.Columns.{place_within, reads}
 use Rattle.lx_levels.proofs.racks.Racks.value.Goals as goal
 
-pub index-requires : goal.index-requires
-index-requires c = omega (
-  arith,
-  place_within c.self.inside _ _ c.self.view_is c.requires,
-  c.self.invariant.of_counts,
-  c.self.inside.counts.ok,
-)
+pub index-foot-requires : goal.index-foot-requires
+index-foot-requires c =
+    omega (arith, place_within c.self.inside c.self.view_is c.requires, c.self.invariant.of_feet, c.self.inside.feet.ok)
 
-pub index-requires-2 : goal.index-requires-2
-index-requires-2 c = omega (
-  arith,
-  place_within c.self.inside _ _ c.self.view_is c.requires,
-  c.self.invariant.of_bottoms,
-  c.self.inside.bottoms.ok,
-)
-
-pub value_in-requires-clause-within : goal.value_in-requires-clause-within
-value_in-requires-clause-within c = place_within c.self.inside _ _ c.self.view_is c.requires
-
-pub value_in-requires-clause-reach : goal.value_in-requires-clause-reach
-value_in-requires-clause-reach c = reach_there c.self.inside _ c.deref.result.now _ c.args.k c.index.result.now c.self.view_is c.self.invariant
-    c.requires c.index.ensures c.deref.ensures.value
+pub value_in-requires : goal.value_in-requires
+value_in-requires c =
+    let read = reads c.self.inside c.self.view_is c.self.invariant c.requires c.index-foot.ensures c.deref.ensures.value in
+    record { within = read.within; reach = read.reach }
 
 pub returns : goal.returns
-returns c =
-    let stack = stack_there c.self.inside _ c.deref.result.now _ c.args.k c.index-2.result.now c.index.result.now c.self.view_is
-    c.self.invariant c.requires c.index-2.ensures c.index.ensures c.deref.ensures.value in
-    c.value_in.ensures ∙ sym (ap (λ (s : Stack). stack_level s c.args.m) stack)
+returns c = rw (reads c.self.inside c.self.view_is c.self.invariant c.requires c.index-foot.ensures c.deref.ensures.value).stack c.value_in.ensures
