@@ -6,3 +6,4 @@ pub mod Laws
 pub mod RunChanges
 pub mod Ticks
 pub mod UnseenEdits
+pub mod Imports

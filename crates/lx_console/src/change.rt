@@ -1,8 +1,7 @@
 //! What a command changed of what goes out.
 
 ghost use Rattle.std.specs.Prelude.{◌≡◌};
-ghost use Rattle.lx_console.specs.Changes.{is_nothing, of_levels};
-ghost use Rattle.lx_console.specs.KeptOutput.{IsChangeOf};
+ghost use Rattle.lx_console.specs.Imports.{is_nothing, of_levels, IsChangeOf};
 
 use lx_base::Dimmer;
 use lx_edit::Dirty;

@@ -1,9 +1,8 @@
 //! What goes out: the outputs of the channels, and the slots of the dimmers.
 
 ghost use Rattle.std.specs.Prelude.{◌≡◌, length, IfOk};
-ghost use Rattle.lx_io.specs.Causes.{HasCause};
-ghost use Rattle.lx_patch.specs.DimmerTable.{StandsForPatch};
-ghost use Rattle.lx_console.specs.KeptOutput.{Reaches, SlotsStand, IsMixedOutput, ShowsPlayer, ShowedPlayer, IsPatchedBut};
+ghost use Rattle.lx_console.specs.Imports.{HasCause, StandsForPatch, Reaches, SlotsStand, IsMixedOutput, ShowsPlayer, ShowedPlayer};
+ghost use Rattle.lx_console.specs.Imports.{IsPatchedBut};
 
 use crate::change::Change;
 use crate::player::Player;

@@ -1,12 +1,7 @@
 //! The kept levels, as keys, ticks and edits leave them.
 
 ghost use Rattle.std.specs.Prelude.{◌≡◌, ℕ, ◌+◌, ◌<◌, ◌≤◌, [], true, false, length, is_some, IsTrue};
-ghost use Rattle.lx_spec.specs.Show.{Valid};
-ghost use Rattle.lx_sheet.specs.SheetMeaning.{RowsStandFor};
-ghost use Rattle.lx_edit.specs.ChanSet.{has_chan};
-ghost use Rattle.lx_levels.specs.Stacks.{level_at};
-ghost use Rattle.lx_levels.specs.LevelsMeaning.{LevelsStandFor, StackStandsAt, StandsBefore};
-ghost use Rattle.lx_console.specs.RunChanges.{IsTicked};
+ghost use Rattle.lx_console.specs.Imports.{Valid, RowsStandFor, has_chan, level_at, LevelsStandFor, StackStandsAt, StandsBefore, IsTicked};
 
 use lx_base::Chan;
 use lx_edit::ChanSet;

@@ -1,11 +1,8 @@
 //! Keys and ticks of the playback, with the levels.
 
 ghost use Rattle.std.specs.Prelude.{◌≡◌, ℕ, ◌+◌, ◌<◌, false, OnOk, OnErr, IfOk, IfErr, IsOkAnd};
+ghost use Rattle.lx_console.specs.Imports.{press, tick, RowsStandFor, level_at, LevelsStandFor};
 ghost use Rattle.lx_base.specs.declared.TheConstants.{TICK_STEP};
-ghost use Rattle.lx_spec.specs.Playback.{press, tick};
-ghost use Rattle.lx_sheet.specs.SheetMeaning.{RowsStandFor};
-ghost use Rattle.lx_levels.specs.Stacks.{level_at};
-ghost use Rattle.lx_levels.specs.LevelsMeaning.{LevelsStandFor};
 
 use crate::levels::{after_key, after_tick};
 use lx_levels::Levels;

@@ -1,13 +1,9 @@
 //! Which of the channels that an edit touched the playback looks at.
 
 ghost use Rattle.std.specs.Prelude.{◌≡◌, ℕ, ◌≤◌, ◌<◌, ◌⊎◌, true, false, find, length, reverse, option_map, IfSome};
-ghost use Rattle.std.specs.Option.{IsSomeAnd};
-ghost use Rattle.std.specs.List.{All};
-ghost use Rattle.lx_spec.specs.Show.{Show as ShowData, Valid, InRange};
-ghost use Rattle.lx_spec.specs.TrackedLevel.{decides};
-ghost use Rattle.lx_edit.specs.ChanSet.{has_chan};
-ghost use Rattle.lx_edit.specs.PlanMeaning.{IsReady, planned};
-ghost use Rattle.lx_console.specs.UnseenEdits.{IsUnseen, IsFrom, PlacesCue, decided_at};
+ghost use Rattle.lx_console.specs.Imports.{IsSomeAnd, All, Valid, InRange, decides, has_chan, IsReady, planned, IsUnseen, IsFrom};
+ghost use Rattle.lx_console.specs.Imports.{PlacesCue, decided_at};
+ghost use Rattle.lx_spec.specs.Show.{Show as ShowData};
 
 use lx_base::{Chan, CueNo};
 use lx_edit::{ChanSet, Plan};

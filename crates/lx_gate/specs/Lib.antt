@@ -6,3 +6,4 @@ pub mod Readings
 pub mod Notes
 pub mod Gates
 pub mod Desks
+pub mod Imports

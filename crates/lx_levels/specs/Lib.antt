@@ -4,3 +4,4 @@ pub mod CurrentFades
 pub mod LevelsMeaning
 pub mod Acts
 pub mod RunsInTurn
+pub mod Imports

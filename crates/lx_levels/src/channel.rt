@@ -1,14 +1,9 @@
 //! The fades of one channel over runs.
 
 ghost use Rattle.std.specs.Prelude.{◌≡◌, ℕ, ◌+◌, ◌<◌, ◌≤◌, length, reverse, slice_index_or, slice_set};
+ghost use Rattle.lx_levels.specs.Imports.{tracked, entry_for, last_cue, RowsStandFor, ValidRun, ValidTimes, stack_level, no_stack, IsValid};
+ghost use Rattle.lx_levels.specs.Imports.{act_over};
 ghost use Rattle.lx_base.specs.declared.TheConstants.{RUNS, TICK_END};
-ghost use Rattle.lx_spec.specs.TrackedLevel.{tracked};
-ghost use Rattle.lx_spec.specs.Run.{entry_for};
-ghost use Rattle.lx_spec.specs.Level.{last_cue};
-ghost use Rattle.lx_sheet.specs.SheetMeaning.{RowsStandFor};
-ghost use Rattle.lx_playback.specs.Valid.{ValidRun, ValidTimes};
-ghost use Rattle.lx_levels.specs.Stacks.{stack_level, no_stack};
-ghost use Rattle.lx_levels.specs.Acts.{IsValid, act_over};
 
 use crate::hints::Hint;
 use crate::racks::Racks;

@@ -1,10 +1,9 @@
 //! The fade that governs a channel.
 
 ghost use Rattle.std.specs.Prelude.{◌≡◌, ◌+◌, ◌<◌, ◌≤◌, ℕ};
-ghost use Rattle.lx_fade.specs.Fades.{fade_at};
+ghost use Rattle.lx_levels.specs.Imports.{fade_at, Governs, StaysUntil};
 ghost use Rattle.lx_fade.specs.declared.held.TheConstants.{NEVER};
 ghost use Rattle.lx_levels.specs.Stacks.{Stack as StackData};
-ghost use Rattle.lx_levels.specs.CurrentFades.{Governs, StaysUntil};
 
 use lx_base::{Level, Moment};
 use lx_fade::{Fade, Held, held_at};

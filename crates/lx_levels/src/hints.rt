@@ -1,9 +1,7 @@
 //! A cue and a move found again where they were found last.
 
 ghost use Rattle.std.specs.Prelude.{◌≡◌, ◌||◌, ℕ, true, is_some};
-ghost use Rattle.std.specs.Option.{option_copied};
-ghost use Rattle.lx_spec.specs.TrackedLevel.{tracked, asserts, cue_of, move_of};
-ghost use Rattle.lx_spec.specs.Run.{acts};
+ghost use Rattle.lx_levels.specs.Imports.{option_copied, tracked, asserts, cue_of, move_of, acts};
 
 use lx_base::{Chan, CueNo, Level};
 use lx_playback::Run;

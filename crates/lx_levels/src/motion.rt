@@ -1,9 +1,8 @@
 //! Levels brought to another moment, each looked at where it may change.
 
 ghost use Rattle.std.specs.Prelude.{◌≡◌, ℕ, ◌+◌, ◌<◌, ◌≤◌, false, List, length, slice_index, slice_index_or};
+ghost use Rattle.lx_levels.specs.Imports.{no_stack, Governs, LevelsReach, IsHeld, IsTold, IsRightAt, IsRightBut, IsWritten, place_of};
 ghost use Rattle.lx_fade.specs.declared.held.TheConstants.{NEVER};
-ghost use Rattle.lx_levels.specs.Stacks.{no_stack};
-ghost use Rattle.lx_levels.specs.CurrentFades.{Governs, LevelsReach, IsHeld, IsTold, IsRightAt, IsRightBut, IsWritten, place_of};
 
 use crate::current::Current;
 use crate::racks::Racks;

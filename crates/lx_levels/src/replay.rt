@@ -1,17 +1,10 @@
 //! The fades of one channel over runs that started one after another.
 
 ghost use Rattle.std.specs.Prelude.{◌≡◌, ℕ, ◌+◌, ◌<◌, ◌≤◌, true, length, reverse, slice_index_or, slice_set, IfSome, None};
-ghost use Rattle.std.specs.Option.{option_map_or};
-ghost use Rattle.std.specs.List.{All};
+ghost use Rattle.lx_levels.specs.Imports.{option_map_or, All, tracked, level, RowsStandFor, OldestFirst, ValidRun, stack_level, no_stack};
+ghost use Rattle.lx_levels.specs.Imports.{IsKnown, IsOver, IsValid, EachAct, IsGround};
 ghost use Rattle.lx_base.specs.declared.TheConstants.{RUNS, TICK_END};
 ghost use Rattle.lx_spec.specs.Show.{Show as ShowData};
-ghost use Rattle.lx_spec.specs.TrackedLevel.{tracked};
-ghost use Rattle.lx_spec.specs.Level.{level};
-ghost use Rattle.lx_sheet.specs.SheetMeaning.{RowsStandFor};
-ghost use Rattle.lx_playback.specs.Valid.{OldestFirst, ValidRun};
-ghost use Rattle.lx_levels.specs.Stacks.{stack_level, no_stack};
-ghost use Rattle.lx_levels.specs.Acts.{IsKnown, IsOver, IsValid};
-ghost use Rattle.lx_levels.specs.RunsInTurn.{EachAct, IsGround};
 
 use crate::channel::{level_there, push_act, times_for};
 use crate::hints::{Hint, acts};

@@ -1,12 +1,7 @@
 //! With which times a run acts on a channel.
 
 ghost use Rattle.std.specs.Prelude.{◌≡◌, ◌==◌, option_and_then, if◌then◌else◌};
-ghost use Rattle.std.specs.Option.{option_copied};
-ghost use Rattle.lx_spec.specs.SortedList.{entry_at};
-ghost use Rattle.lx_spec.specs.Show.{IsTime};
-ghost use Rattle.lx_spec.specs.TrackedLevel.{move_of};
-ghost use Rattle.lx_spec.specs.Run.{entry_for, first_entry};
-ghost use Rattle.lx_playback.specs.Valid.{ValidTimes};
+ghost use Rattle.lx_levels.specs.Imports.{option_copied, entry_at, IsTime, move_of, entry_for, first_entry, ValidTimes};
 
 use lx_base::{Chan, Cs, PartNo};
 use lx_playback::{PartTimes, Run};

@@ -1,3 +1,4 @@
 pub mod Cues
 pub mod Laws
 pub mod Records
+pub mod Imports

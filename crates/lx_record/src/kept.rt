@@ -1,12 +1,8 @@
 //! A record of one cue alone: the cue above it keeps the levels that it had.
 
 ghost use Rattle.std.specs.Prelude.{◌≡◌, ◌≤◌, ◌==◌, ◌&&◌, ℕ, not, Some, None, IfOk, IfSome, option_map, if◌then◌else◌};
-ghost use Rattle.lx_io.specs.Causes.{HasCause};
-ghost use Rattle.lx_spec.specs.Show.{ValidCue};
-ghost use Rattle.lx_spec.specs.TrackedLevel.{tracked, decides, cue_above};
-ghost use Rattle.lx_spec.specs.EditedShow.{with_moves, moves_for};
-ghost use Rattle.lx_console.specs.ConsoleMeaning.{level_now};
-ghost use Rattle.lx_record.specs.Cues.{comes_out_changed, kept_cue};
+ghost use Rattle.lx_record.specs.Imports.{HasCause, ValidCue, tracked, decides, cue_above, with_moves, moves_for, level_now};
+ghost use Rattle.lx_record.specs.Imports.{comes_out_changed, kept_cue};
 
 use crate::staged::level_on_stage;
 use lx_base::{Chan, CueNo, Level};

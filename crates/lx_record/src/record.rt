@@ -1,13 +1,8 @@
 //! The record of the stage as a cue.
 
 ghost use Rattle.std.specs.Prelude.{◌≡◌, ◌≢◌, IfOk, IfSome, MatchResult, Ok, Some, false};
-ghost use Rattle.lx_io.specs.Causes.{HasCauseOf};
-ghost use Rattle.lx_spec.specs.EditedShow.{with_cue};
-ghost use Rattle.lx_spec.specs.RecordedLevels.{recorded, with_recorded};
-ghost use Rattle.lx_spec.specs.Desk.{Desk};
-ghost use Rattle.lx_console.specs.ConsoleMeaning.{StandsFor, level_now};
-ghost use Rattle.lx_edit.specs.PlanMeaning.{CanPlace, IsReady, with_above};
-ghost use Rattle.lx_record.specs.Records.{Records, PlansRecord, IsRefused};
+ghost use Rattle.lx_record.specs.Imports.{HasCauseOf, with_cue, recorded, with_recorded, Desk, StandsFor, level_now, CanPlace, IsReady};
+ghost use Rattle.lx_record.specs.Imports.{with_above, Records, PlansRecord, IsRefused};
 
 use crate::kept::kept_above;
 use crate::staged::staged;

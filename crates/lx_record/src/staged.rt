@@ -1,13 +1,7 @@
 //! The cue that takes the stage's levels.
 
 ghost use Rattle.std.specs.Prelude.{◌≡◌, ◌≢◌, ◌≤◌, ◌==◌, ◌∷◌, ◌++◌, [], ℕ, not, None, IfOk, OnOk, if◌then◌else◌};
-ghost use Rattle.lx_io.specs.Causes.{HasCause};
-ghost use Rattle.lx_spec.specs.Show.{ValidCue};
-ghost use Rattle.lx_spec.specs.TrackedLevel.{tracked};
-ghost use Rattle.lx_spec.specs.EditedShow.{with_levels};
-ghost use Rattle.lx_spec.specs.RecordedLevels.{untracked};
-ghost use Rattle.lx_console.specs.ConsoleMeaning.{level_now};
-ghost use Rattle.lx_record.specs.Cues.{cue_or_new};
+ghost use Rattle.lx_record.specs.Imports.{HasCause, ValidCue, tracked, with_levels, untracked, level_now, cue_or_new};
 
 use lx_base::{Chan, CueNo, Level};
 use lx_console::Console;

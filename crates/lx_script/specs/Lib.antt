@@ -4,3 +4,4 @@ pub mod FirstWords
 pub mod UndoLines
 pub mod LinesWithUndo
 pub mod LoneKeys
+pub mod Imports

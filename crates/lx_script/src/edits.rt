@@ -1,9 +1,8 @@
 //! Lines that edit cues: what follows their first word.
 
 ghost use Rattle.std.specs.Prelude.{◌≡◌, true, false};
-ghost use Rattle.lx_spec.specs.Script.{edit, cue_edit, part_edit, delete_line, set_line, set_channels, set_group, release_line, time_line};
-ghost use Rattle.lx_spec.specs.Script.{time_edit, follow_line, label_line};
-ghost use Rattle.lx_lex.specs.Left.{left};
+ghost use Rattle.lx_script.specs.Imports.{edit, cue_edit, part_edit, delete_line, set_line, set_channels, set_group, release_line};
+ghost use Rattle.lx_script.specs.Imports.{time_line, time_edit, follow_line, label_line, left};
 
 use crate::phrase::{
     at_level, channels, cue_number, delay_or_end, ended, group, in_part, only_or_end, part, takes,

@@ -1,8 +1,7 @@
 //! The first word of a script line.
 
 ghost use Rattle.std.specs.Prelude.{◌≡◌};
-ghost use Rattle.lx_lex.specs.WordTable.{looked_up};
-ghost use Rattle.lx_script.specs.FirstWords.{first_words};
+ghost use Rattle.lx_script.specs.Imports.{looked_up, first_words};
 
 use lx_lex::find_word;
 

@@ -2,9 +2,7 @@
 #![tactic(auto, using(lx_io::proofs::Chain::puts))]
 
 ghost use Rattle.std.specs.Prelude.{◌≡◌, ◌++◌, [], ◌∷◌, codes, length, decimal, flat_map};
-ghost use Rattle.lx_io.specs.Puts.{Puts};
-ghost use Rattle.lx_spec.specs.Replies.{frame_text};
-ghost use Rattle.lx_script.specs.ReplyTexts.{count_words};
+ghost use Rattle.lx_script.specs.Imports.{Puts, frame_text, count_words};
 
 use crate::cells::put_cells;
 use lx_base::{Level, Moment, UNIVERSE_SLOTS};

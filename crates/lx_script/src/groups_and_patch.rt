@@ -1,8 +1,7 @@
 //! Lines that edit groups, submasters and the patch: what follows their first word.
 
 ghost use Rattle.std.specs.Prelude.{◌≡◌};
-ghost use Rattle.lx_spec.specs.Script.{group_line, sub_line, patch_line, unpatch_line};
-ghost use Rattle.lx_lex.specs.Left.{left};
+ghost use Rattle.lx_script.specs.Imports.{group_line, sub_line, patch_line, unpatch_line, left};
 
 use crate::edits::edit;
 use crate::phrase::{at_level, channel, channels, dimmer, ended, group, sub, word};

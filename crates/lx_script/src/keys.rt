@@ -1,9 +1,7 @@
 //! Lines that press keys, move faders, let time pass or ask for a line: what follows their first word.
 
 ghost use Rattle.std.specs.Prelude.{◌≡◌};
-ghost use Rattle.lx_spec.specs.Phrase.{ended};
-ghost use Rattle.lx_spec.specs.Script.{fader_line, master_line, goto_line, tick_line, frame_line, sheet_line};
-ghost use Rattle.lx_lex.specs.Left.{left};
+ghost use Rattle.lx_script.specs.Imports.{ended, fader_line, master_line, goto_line, tick_line, frame_line, sheet_line, left};
 
 use crate::phrase::{at_level, cue_number, ended, sub};
 use lx_base::{TICKS, UNIVERSES};

@@ -1,11 +1,7 @@
 //! What a script line means.
 
 ghost use Rattle.std.specs.Prelude.{◌≡◌, ◌∷◌, IfSome, Some, codes};
-ghost use Rattle.lx_spec.specs.Text.{tokens};
-ghost use Rattle.lx_spec.specs.Script.{line_of, meaning};
-ghost use Rattle.lx_spec.specs.ValidEdit.{ValidLine};
-ghost use Rattle.lx_lex.specs.Left.{left};
-ghost use Rattle.lx_script.specs.LoneKeys.{lone_key};
+ghost use Rattle.lx_script.specs.Imports.{tokens, line_of, meaning, ValidLine, left, lone_key};
 
 use crate::first_word::{FirstWord, first_word};
 use crate::sentence::sentence;

@@ -1,15 +1,10 @@
 //! Phrases of a script line. Each takes its tokens from the front of those that are left, and is `None` where they
 //! aren't there.
 
-ghost use Rattle.lx_base.specs.declared.TheConstants.{CHANNELS, DIMMERS, GROUPS, PARTS, SUBS};
 ghost use Rattle.std.specs.Prelude.{◌≡◌, false, option_map, if◌then◌else◌};
-ghost use Rattle.std.specs.Option.{option_map_or};
-ghost use Rattle.std.specs.Str.{str_to_ascii_uppercase};
-ghost use Rattle.lx_base.specs.Numbers.{Span};
-ghost use Rattle.lx_spec.specs.Numerals.{read_whole, read_level, read_time};
-ghost use Rattle.lx_spec.specs.Phrase.{word, value, value_or, ended, channel, channels, at_level, in_part, only_or_end};
-ghost use Rattle.lx_spec.specs.Script.{cue_number, time};
-ghost use Rattle.lx_lex.specs.Left.{left};
+ghost use Rattle.lx_script.specs.Imports.{option_map_or, str_to_ascii_uppercase, Span, read_whole, read_level, read_time, word, value};
+ghost use Rattle.lx_script.specs.Imports.{value_or, ended, channel, channels, at_level, in_part, only_or_end, cue_number, time, left};
+ghost use Rattle.lx_base.specs.declared.TheConstants.{CHANNELS, DIMMERS, GROUPS, PARTS, SUBS};
 
 use lx_base::{Chan, ChanRange, Cs, CueNo, Dimmer, GroupNo, Level, PartNo, SubNo};
 use lx_lex::{

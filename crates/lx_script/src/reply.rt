@@ -2,10 +2,7 @@
 #![tactic(auto, using(lx_io::proofs::Chain::puts))]
 
 ghost use Rattle.std.specs.Prelude.{◌≤◌, ◌++◌, ◌∷◌, [], decimal, length};
-ghost use Rattle.lx_io.specs.Puts.{Puts};
-ghost use Rattle.lx_spec.specs.ShowText.{cue_number_text};
-ghost use Rattle.lx_spec.specs.Replies.{refused_text};
-ghost use Rattle.lx_script.specs.ReplyTexts.{reply_text};
+ghost use Rattle.lx_script.specs.Imports.{Puts, cue_number_text, refused_text, reply_text};
 
 use lx_base::CueNo;
 use lx_io::{Sink, SinkFault, put_all};

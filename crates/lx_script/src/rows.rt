@@ -39,4 +39,5 @@ pub(crate) static COUNTS: [[u8; 300]; 4] = [
 ];
 
 /// The last two digits of a number, with zeros.
-pub(crate) static PAIRS: [[u8; 2]; 100] = pairs! { pair: b'0' b'1' b'2' b'3' b'4' b'5' b'6' b'7' b'8' b'9' };
+pub(crate) static PAIRS: [[u8; 2]; 100] =
+    pairs! { pair: b'0' b'1' b'2' b'3' b'4' b'5' b'6' b'7' b'8' b'9' };

@@ -1,9 +1,7 @@
 //! Lines for a second cue list.
 
 ghost use Rattle.std.specs.Prelude.{◌≡◌, IfSome};
-ghost use Rattle.lx_spec.specs.Script.{line_of};
-ghost use Rattle.lx_spec.specs.TwoLists.{where_of_second, is_of_second, commands_second};
-ghost use Rattle.lx_spec.specs.ValidEdit.{ValidLine};
+ghost use Rattle.lx_script.specs.Imports.{line_of, where_of_second, is_of_second, commands_second, ValidLine};
 
 use crate::line::read_line;
 use lx_spec::{Command, Edit, Key, Line};

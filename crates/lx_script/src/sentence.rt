@@ -1,8 +1,7 @@
 //! A script line by its first word.
 
 ghost use Rattle.std.specs.Prelude.{◌≡◌};
-ghost use Rattle.lx_script.specs.FirstWords.{sentence_of};
-ghost use Rattle.lx_lex.specs.Left.{left};
+ghost use Rattle.lx_script.specs.Imports.{sentence_of, left};
 
 use crate::first_word::FirstWord;
 use crate::phrase::ended;

@@ -1,11 +1,8 @@
 //! Lines that ask something of the history of a desk: `undo`, `redo` and `record n [only]`.
 
 ghost use Rattle.std.specs.Prelude.{◌≡◌, ◌∷◌, false, None, IfSome};
-ghost use Rattle.lx_spec.specs.Text.{tokens};
-ghost use Rattle.lx_spec.specs.UndoSession.{undo_meaning, record_line};
-ghost use Rattle.lx_lex.specs.Left.{left};
-ghost use Rattle.lx_script.specs.UndoLines.{NamesCue, is_other_letter};
-ghost use Rattle.lx_script.specs.LinesWithUndo.{IsReadWithUndo, IsValidWithUndo, MeansWithUndo};
+ghost use Rattle.lx_script.specs.Imports.{tokens, undo_meaning, record_line, left, NamesCue, is_other_letter, IsReadWithUndo};
+ghost use Rattle.lx_script.specs.Imports.{IsValidWithUndo, MeansWithUndo};
 
 use crate::first_word::first_word;
 use crate::line::read_line;

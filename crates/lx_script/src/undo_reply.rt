@@ -1,8 +1,7 @@
 //! The reply to an undo or a redo that is refused.
 #![tactic(auto, using(lx_io::proofs::Chain::puts))]
 
-ghost use Rattle.lx_io.specs.Puts.{Puts};
-ghost use Rattle.lx_spec.specs.UndoSession.{undo_fault_text};
+ghost use Rattle.lx_script.specs.Imports.{Puts, undo_fault_text};
 
 use lx_io::{Sink, SinkFault, put_all};
 use lx_spec::UndoFault;

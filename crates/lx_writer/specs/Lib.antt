@@ -1,1 +1,2 @@
 pub mod ShiftedLines
+pub mod Imports

@@ -1,15 +1,11 @@
 //! The lines of a cue's moves: those of many moves are written into one text and handed to the sink as one piece.
 #![tactic(auto, using(lx_io::proofs::Chain::puts))]
 
-ghost use Rattle.std.specs.Prelude.{◌≡◌, ◌==◌, true, ◌+◌, ◌-◌, ◌*◌, ◌<◌, ◌≤◌, [], ◌++◌, ◌∷◌, codes, decimal, filter, take, flat_map};
-ghost use Rattle.std.specs.Prelude.{false, length, IfSome, slice_index_or};
-ghost use Rattle.std.specs.List.{AllByRecursion};
-ghost use Rattle.lx_io.specs.Puts.{Puts};
+ghost use Rattle.std.specs.Prelude.{◌≡◌, ◌==◌, true, ◌+◌, ◌-◌, ◌*◌, ◌<◌, ◌≤◌, [], ◌++◌, ◌∷◌, codes, decimal, filter, take, flat_map, false};
+ghost use Rattle.std.specs.Prelude.{length, IfSome, slice_index_or};
+ghost use Rattle.lx_writer.specs.Imports.{AllByRecursion, Puts, shifted_line, shifted_lines, level_text, line, at_text, move_text};
 ghost use Rattle.lx_writer.specs.declared.lines.TheConstants.{PIECE_MOVES, LINE_BYTES, WRITTEN_BYTES};
-ghost use Rattle.lx_writer.specs.ShiftedLines.{shifted_line, shifted_lines};
 ghost use Rattle.lx_base.specs.declared.TheConstants.{CHANNELS};
-ghost use Rattle.lx_spec.specs.Numerals.{level_text};
-ghost use Rattle.lx_spec.specs.ShowText.{line, at_text, move_text};
 
 use crate::rows::LEVELS;
 use lx_base::{Chan, Level, PartNo};
