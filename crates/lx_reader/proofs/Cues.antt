@@ -89,7 +89,7 @@ part_added : (about : List PlacedEntry) (q : ℕ) (b : Bool) → has_entry (λ m
     ≡ cond b (parts_from about) (placed (λ part. part.number) (new_part q) (parts_from about))
 part_added about q true there fresh = ap (λ v. map (part_of about) v) (placed-there q (parts_named about) (parts_sorted about) there)
 part_added about q false absent fresh =
-    map-placed (λ part. part.number) (part_of about) (λ m. refl) q (parts_named about)
+    map-placed (λ m. m) (λ part. part.number) (part_of about) (λ m. refl) q (parts_named about)
     ∙ ap (λ part. placed (λ x. x.number) part (parts_from about)) (fresh absent)
 
 part_opened : (about : List PlacedEntry) (p q : ℕ) → IsFresh about (Some q)

@@ -24,7 +24,7 @@ pub use Rattle.lx_reader.specs.OpenRecord.{HasPartIn, IsOpen}
 pub use Rattle.lx_reader.specs.ReadingState.{change_by, changed_in, cue_with, facts_in, final_reading, first_state, later, moves_of, new_set, number_begun}
 pub use Rattle.lx_reader.specs.ReadingState.{part_with_entry, parts_with, placed_in, ReadingState, set_with, show_with, speaks, state_after, with_down}
 pub use Rattle.lx_reader.specs.ReadingState.{with_entry, with_named, with_rows, with_up}
-pub use Rattle.lx_reader.specs.Settled.{CueFits, filled_cue, filled_set, is_open, is_record, OpenFits, PassFits, SetFits, settled, with_open}
+pub use Rattle.lx_reader.specs.Settled.{CueFits, filled_cue, filled_set, is_open, is_record, IsBetween, IsReady, OpenFits, PassFits, SetFits, settled, with_open}
 pub use Rattle.lx_reader.specs.declared.fault.ShowFault.{ShowFault}
 pub use Rattle.lx_reader.specs.declared.open_record.Open.{Open}
 pub use Rattle.lx_reader.specs.declared.reader.Reader.{Reader}

@@ -36,7 +36,7 @@ named_at : {A : Type 0} (key : A → ℕ) (new f : ℕ → A) → ((m : ℕ) →
     → (has_entry (λ m. m) n ns ≡ false → f n ≡ new n) → (b : Bool) → has_entry (λ m. m) n ns ≡ b
     → map f (placed (λ m. m) n ns) ≡ cond b (map f ns) (placed key (new n) (map f ns))
 named_at key new f keys n ns rises fresh true there = ap (map f) (placed-there n ns rises there)
-named_at key new f keys n ns rises fresh false absent = map-placed key f keys n ns ∙ ap (λ x. placed key x (map f ns)) (fresh absent)
+named_at key new f keys n ns rises fresh false absent = map-placed (λ m. m) key f keys n ns ∙ ap (λ x. placed key x (map f ns)) (fresh absent)
 
 -- entries made of numbers, with what one more entry says: it names one, or changes the one at which it stands
 pub listed-more : {A : Type 0} (key : A → ℕ) (new : ℕ → A) (named : Option ℕ) (o : Option (A → A)) (at : Option ℕ) (f g : ℕ → A)

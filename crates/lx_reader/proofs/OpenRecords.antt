@@ -2,8 +2,6 @@
 use Rattle.lx_reader.proofs.Imports.{◌≡◌, ℕ, true, cond, List, Option, Some, refl, ap, ◌∙◌, sym, subst, IsTrue, ◌||◌, is_some, length, nat_lt}
 use Rattle.lx_reader.proofs.Imports.{AllByRecursion, CUES, Move, IsStrictlySorted, entry_at, has_entry, placed, Cue, entry_at-placed_here}
 use Rattle.lx_reader.proofs.Imports.{entry_number, found_valid, placed_again, placed_same, Open, Reader, with_entry}
-use Rattle.lx_reader.specs.declared.open_record.Open.TheVariants as open_records
-use Rattle.lx_reader.proofs.OpenSteps.{opened}
 
 -- the record that stood where a bare one of the number was put has that number
 pub number_there : {A : Type 0} (key : A → ℕ) (x : A) (n : ℕ) (xs : List A) (o : Option A) → o ≡ entry_at key n xs → o ≡ Some x → key x ≡ n
@@ -31,7 +29,3 @@ room_kept bare n xs ys number left =
     let there : has_entry (λ c. c.number) n ys ≡ true =
     ap (has_entry (λ c. c.number) n) left ∙ ap is_some (entry_at-placed_here (λ c. c.number) n bare xs number) in
     subst (λ b. IsTrue (b || nat_lt (length ys) CUES)) (sym there) refl
-
--- no record is open
-pub opened_none : (r : Reader) (o : Open) (moves : List Move) → o ≡ open_records.None → opened r o moves ≡ r
-opened_none r o moves none = ap (λ (p : Open). opened r p moves) none

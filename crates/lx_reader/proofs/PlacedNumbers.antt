@@ -10,27 +10,27 @@ eq-here n = eq_true n n refl
 pub eq-sym : (m n : ℕ) → (m == n) ≡ false → (n == m) ≡ false
 eq-sym m n h = grind (arith, nat_tests)
 
--- a test of numbers, and the same of the entries made of them, where these are made alike
-filter_made : {A : Type 0} (key : A → ℕ) (f g : ℕ → A) → ((m : ℕ) → key (f m) ≡ m) → (test : ℕ → Bool)
-    → ((m : ℕ) → test m ≡ true → g m ≡ f m) → (ns : List ℕ) → map g (filter test ns) ≡ filter (λ x. test (key x)) (map f ns)
-filter_made key f g keys test same [] = refl
-filter_made key f g keys test same (m ∷ ms) =
-    let rest = filter_made key f g keys test same ms in
-    elim (cases_Bool (test m)) [ inl is ↦ rw (keys m, is) (λ i. same m is i ∷ rest i) | inr is ↦ rw (keys m, is) rest ]
+-- a test of numbers, and the same of what is made of their entries, where it is made alike
+filter_made : {A B : Type 0} (at : A → ℕ) (key : B → ℕ) (f g : A → B) → ((m : A) → key (f m) ≡ at m) → (test : ℕ → Bool)
+    → ((m : A) → test (at m) ≡ true → g m ≡ f m) → (ns : List A) → map g (filter (λ m. test (at m)) ns) ≡ filter (λ x. test (key x)) (map f ns)
+filter_made at key f g keys test same [] = refl
+filter_made at key f g keys test same (m ∷ ms) =
+    let rest = filter_made at key f g keys test same ms in
+    elim (cases_Bool (test (at m))) [ inl is ↦ rw (keys m, is) (λ i. same m is i ∷ rest i) | inr is ↦ rw (keys m, is) rest ]
 
--- a number placed, and the entry made of it placed, which alone may be made otherwise
-pub map-placed_anew : {A : Type 0} (key : A → ℕ) (f g : ℕ → A) → ((m : ℕ) → key (f m) ≡ m) → (n : ℕ) → key (g n) ≡ n
-    → ((m : ℕ) → (m == n) ≡ false → g m ≡ f m) → (ns : List ℕ) → map g (placed (λ m. m) n ns) ≡ placed key (g n) (map f ns)
-map-placed_anew key f g keys n here same ns =
-    let low = filter_made key f g keys (λ m. nat_lt m n) (λ m h. same m (below_is_other m n n h (omega arith))) ns in
-    let high = filter_made key f g keys (λ m. nat_lt n m) (λ m h. same m (above_is_other m n n h (omega arith))) ns in
-    map-append g (filter (λ m. nat_lt m n) ns) (n ∷ filter (λ m. nat_lt n m) ns)
+-- an entry placed, and what is made of it placed, which alone may be made otherwise
+pub map-placed_anew : {A B : Type 0} (at : A → ℕ) (key : B → ℕ) (f g : A → B) → ((m : A) → key (f m) ≡ at m) → (n : A)
+    → key (g n) ≡ at n → ((m : A) → (at m == at n) ≡ false → g m ≡ f m) → (ns : List A) → map g (placed at n ns) ≡ placed key (g n) (map f ns)
+map-placed_anew at key f g keys n here same ns =
+    let low = filter_made at key f g keys (λ k. nat_lt k (at n)) (λ m h. same m (below_is_other (at m) (at n) (at n) h (omega arith))) ns in
+    let high = filter_made at key f g keys (λ k. nat_lt (at n) k) (λ m h. same m (above_is_other (at m) (at n) (at n) h (omega arith))) ns in
+    map-append g (filter (λ m. nat_lt (at m) (at n)) ns) (n ∷ filter (λ m. nat_lt (at n) (at m)) ns)
     ∙ (λ i. low i ++ g n ∷ high i)
     ∙ sym (ap (λ k. filter (λ x. nat_lt (key x) k) (map f ns) ++ g n ∷ filter (λ x. nat_lt k (key x)) (map f ns)) here)
 
-pub map-placed : {A : Type 0} (key : A → ℕ) (f : ℕ → A) → ((m : ℕ) → key (f m) ≡ m) → (n : ℕ) (ns : List ℕ)
-    → map f (placed (λ m. m) n ns) ≡ placed key (f n) (map f ns)
-map-placed key f keys n ns = map-placed_anew key f f keys n (keys n) (λ m differs. refl) ns
+pub map-placed : {A B : Type 0} (at : A → ℕ) (key : B → ℕ) (f : A → B) → ((m : A) → key (f m) ≡ at m) → (n : A) (ns : List A)
+    → map f (placed at n ns) ≡ placed key (f n) (map f ns)
+map-placed at key f keys n ns = map-placed_anew at key f f keys n (keys n) (λ m differs. refl) ns
 
 -- a number that is there stays where it is
 pub placed-there : (n : ℕ) (ns : List ℕ) → IsStrictlySorted (λ m. m) ns → has_entry (λ m. m) n ns ≡ true → placed (λ m. m) n ns ≡ ns
@@ -79,6 +79,6 @@ pub changed-made : {A : Type 0} (key : A → ℕ) (f g : ℕ → A) → ((m : �
 changed-made {A} key f g kf kg n same change here ns rises there =
     let made : entry_at key n (map f ns) ≡ Some (f n) = entry_made key f kf n ns ∙ ap (λ b. cond b (Some (f n)) None) there in
     ap (λ v. map g v) (sym (placed-there n ns rises there))
-    ∙ map-placed_anew key f g kf n (kg n) same ns
+    ∙ map-placed_anew (λ m. m) key f g kf n (kg n) same ns
     ∙ ap (λ v. placed key v (map f ns)) here
     ∙ sym (ap (λ o. option_map_or (λ x. placed key (change x) (map f ns)) o (map f ns)) made)
