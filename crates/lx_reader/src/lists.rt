@@ -3,7 +3,6 @@
 ghost use Rattle.std.specs.Prelude.{◌≡◌, ◌∷◌, Ok, ◌+◌, ◌≤◌, min, IfSome, MatchOption};
 ghost use Rattle.lx_base.specs.declared.TheConstants.{CHANNELS};
 ghost use Rattle.lx_base.specs.Numbers.{percent as percent_level};
-ghost use Rattle.lx_spec.specs.Numerals.{read_level};
 ghost use Rattle.lx_lex.specs.Left.{left};
 ghost use Rattle.lx_lex.specs.PlainNumber.{FirstIsLevel, FirstIsNumber};
 ghost use Rattle.lx_reader.specs.FieldLists.{FirstIsMember, FirstIsRow, IsNext, TakesSome, fault_in, all_pairs, all_triples};
@@ -148,17 +147,7 @@ fn other_level(tokens: &mut Tokens) -> Option<Level>
     if let Some(level) = tokens.take_hex() {
         return Some(level);
     }
-    level_of(tokens.next()?)
-}
-
-/// The level that a token is, in whatever form.
-fn level_of(token: &[u8]) -> Option<Level>
-    ensures { IfSome result (λ level. read_level token.now ≡ Ok level) }
-{
-    match read_level(token) {
-        Ok(level) => Some(level),
-        Err(_) => None,
-    }
+    read_level(tokens.next()?).ok()
 }
 
 /// The level of this many percent; none above 100.
