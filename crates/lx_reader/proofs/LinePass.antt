@@ -23,7 +23,12 @@ module _ {S : Type 0} {told : ToldBySource S} {l l' : Lines S} (r q : Reader) {r
 
   -- A line that is too long.
   pub long_turn : LINE_BYTES < length (without_cr raw) → TurnOf told l l' r q (Err (faults.Text (LineTooLong i)))
-  long_turn long = inl (raw, handed, long_entry (facts_of r (l.number + 1)) (without_cr raw) long ∙ ap (λ k. Err (LineTooLong k)) (sym number))
+  long_turn long = inl (
+    raw,
+    handed,
+    long_entry (facts_of r (l.number + 1)) (without_cr raw) long ∙ ap (λ k. Err (LineTooLong k))
+        (sym number),
+  )
 
 -- no line is a failed read
 pub no_read_fault : {P : Type 0} (r q : Reader) (i : ℕ) (result : Result (Unit {0}) ShowFault) (x : Result Entry TextFault)
@@ -38,7 +43,8 @@ pub record Passage {S : Type 0} (told : ToldBySource S) (old l : Lines S) (r : R
 pub passage_none : {S : Type 0} (told : ToldBySource S) (l : Lines S) {r : Reader} {show : Show} → l.number ≡ 0 → l.going ≡ true
     → show ≡ first_state.show → r ≡ new_reader show → Passage told l l r
 passage_none told l first going shows is = record {
-  past = subst (PassedLines told l l) (sym (ap state_of is ∙ ap (λ (s : Show). state_of (new_reader s)) shows)) (lines_none told l first going);
+  past = subst (PassedLines told l l) (sym (ap state_of is ∙ ap (λ (s : Show). state_of (new_reader s)) shows))
+      (lines_none told l first going);
   going = ap (λ r. r.ended) is;
 }
 

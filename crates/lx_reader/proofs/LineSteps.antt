@@ -39,17 +39,13 @@ times_from i entry (Ok time) (Ok delay) = refl
 times_from i entry (Ok time) (Err fault) = refl
 times_from i entry (Err fault) d = refl
 
-pub times-next : (i : ℕ) (entry : ℕ → ℕ → Entry) (rest : List (List ℕ)) → times i entry rest ≡ said_with entry (next_times i rest)
+times-next : (i : ℕ) (entry : ℕ → ℕ → Entry) (rest : List (List ℕ)) → times i entry rest ≡ said_with entry (next_times i rest)
 times-next i entry [] = refl
 times-next i entry (token ∷ rest) = times_from i entry (number i (read_time token)) (delay_at i rest)
 
-pub times_fault : (i : ℕ) (entry : ℕ → ℕ → Entry) (rest : List (List ℕ)) (fault : TextFault) → Err fault ≡ next_times i rest
-    → times i entry rest ≡ Err fault
-times_fault i entry rest fault is = times-next i entry rest ∙ ap (said_with entry) (sym is)
-
-pub times_ok : (i : ℕ) (entry : ℕ → ℕ → Entry) (rest : List (List ℕ)) (times_read : ℕ × ℕ) → Ok times_read ≡ next_times i rest
-    → times i entry rest ≡ Ok (entry times_read.0 times_read.1)
-times_ok i entry rest times_read is = times-next i entry rest ∙ ap (said_with entry) (sym is)
+pub times_are : (i : ℕ) (entry : ℕ → ℕ → Entry) (rest : List (List ℕ)) {r : Result (ℕ × ℕ) TextFault} → r ≡ next_times i rest
+    → times i entry rest ≡ said_with entry r
+times_are i entry rest is = times-next i entry rest ∙ ap (said_with entry) (sym is)
 
 -- Rows of the patch.
 patch_says : (old : Reader) (i : ℕ) (page : List ℕ) (rest : List (List ℕ)) → old.identified ≡ true → is_ok (read_whole 1 1 page) ≡ true
@@ -61,34 +57,29 @@ patch_says old i page rest identified one =
 abbrev pub patched : Reader → Show → Reader
 patched old show = record old { show = show; section = NoRecord; part = 1 }
 
-rows_ok : (old : Reader) (show : Show) (i : ℕ) (page : List ℕ) (rest : List (List ℕ)) (r : Result (List PatchRow) TextFault)
-    → old.ended ≡ false → old.identified ≡ true → is_ok (read_whole 1 1 page) ≡ true → all_triples i rest ≡ r
-    → IsOkAnd r (λ rows. show ≡ with_rows rows old.show)
-    → IsOkAnd (entry_by_word (facts_of old i) [] words.Patch (page ∷ rest)) (IsStep old (patched old show) i)
-rows_ok old show i page rest (Err fault) going identified one list is = absurd is
-rows_ok old show i page rest (Ok rows) going identified one list is =
-    took (patch_says old i page rest identified one ∙ ap (λ v. v >>= (λ rows. Ok (Patches rows))) list)
-    (record { state = λ j. record (state_of (patched old show)) { show = is j }; ended = going })
+rows_ok : (old : Reader) (show : Show) (i : ℕ) (r : Result (List PatchRow) TextFault) → old.ended ≡ false
+    → IsOkAnd r (λ rows. show ≡ with_rows rows old.show) → IsOkAnd (r >>= (λ rows. Ok (Patches rows))) (IsStep old (patched old show) i)
+rows_ok old show i (Err fault) going is = absurd is
+rows_ok old show i (Ok rows) going is = record { state = λ j. record (state_of (patched old show)) { show = is j }; ended = going }
 
-rows_stop : (stop : ShowFault) (old : Reader) (i : ℕ) (page : List ℕ) (rest : List (List ℕ)) → old.identified ≡ true
-    → is_ok (read_whole 1 1 page) ≡ true → IsFaultOf stop (all_triples i rest)
-    → IsFaultOf stop (entry_by_word (facts_of old i) [] words.Patch (page ∷ rest))
-rows_stop (faults.Text fault) old i page rest identified one is = patch_says old i page rest identified one ∙ ap (λ v. v >>= (λ rows. Ok (Patches rows))) is
-rows_stop faults.Memory old i page rest identified one is = tt
-rows_stop faults.ReadFault old i page rest identified one is = absurd is
-rows_stop faults.InputTooLong old i page rest identified one is = absurd is
+rows_stop : (stop : ShowFault) (r : Result (List PatchRow) TextFault) → IsFaultOf stop r → IsFaultOf stop (r >>= (λ rows. Ok (Patches rows)))
+rows_stop (faults.Text fault) r is = ap (λ v. v >>= (λ rows. Ok (Patches rows))) is
+rows_stop other r is = is
 
 pub rows_took : (old : Reader) (show : Show) (i : ℕ) (page : List ℕ) (tokens rest : List (List ℕ)) (result : Result (Unit {0}) ShowFault)
     → tokens ≡ page ∷ rest → old.ended ≡ false → old.identified ≡ true → is_ok (read_whole 1 1 page) ≡ true
     → OnOk result (IsOkAnd (all_triples i rest) (λ rows. show ≡ with_rows rows old.show))
     → IfErr result (λ stop. IsFaultOf stop (all_triples i rest))
     → Outcome old (patched old show) i result (entry_by_word (facts_of old i) [] words.Patch tokens)
-rows_took old show i page tokens rest (Ok done) cut going identified one is stop =
-    subst (λ v. Outcome old (patched old show) i (Ok done) (entry_by_word (facts_of old i) [] words.Patch v)) (sym cut)
-    (rows_ok old show i page rest (all_triples i rest) going identified one refl is)
-rows_took old show i page tokens rest (Err stop) cut going identified one is stopped =
-    subst (λ v. IsFaultOf stop (entry_by_word (facts_of old i) [] words.Patch v)) (sym cut)
-    (rows_stop stop old i page rest identified one stopped)
+rows_took old show i page tokens rest result cut going identified one is stop =
+    subst (Outcome old (patched old show) i result)
+    (sym (ap (entry_by_word (facts_of old i) [] words.Patch) cut ∙ patch_says old i page rest identified one))
+    (elim result as (λ v. OnOk v (IsOkAnd (all_triples i rest) (λ rows. show ≡ with_rows rows old.show))
+    → IfErr v (λ stop. IsFaultOf stop (all_triples i rest))
+    → Outcome old (patched old show) i v (all_triples i rest >>= (λ rows. Ok (Patches rows)))) [
+      | Ok done ↦ λ is stop. rows_ok old show i (all_triples i rest) going is
+      | Err fault ↦ λ is stop. rows_stop fault (all_triples i rest) stop
+    ] is stop)
 
 -- The first line of a cue.
 abbrev pub record_said : (ℕ → Section) → Result (Option ℕ) TextFault → Result Entry TextFault

@@ -9,7 +9,7 @@ use Rattle.lx_reader.proofs.Imports.{Facts, IsReady, settled}
 use Rattle.lx_reader.specs.declared.reading.ShowPass.{ShowPass}
 use Rattle.lx_spec.specs.declared.Word.TheVariants as words
 use Rattle.lx_reader.specs.declared.open_record.Open.TheVariants as open_records
-use Rattle.lx_reader.proofs.LineSteps.{opened, times_ok}
+use Rattle.lx_reader.proofs.LineSteps.{opened, times_are}
 use Rattle.lx_reader.proofs.OpenCues.{own_fits}
 
 -- an entry that was placed is changed
@@ -80,14 +80,11 @@ members_at t i line word rest =
     elim word as (λ w. members_entry (facts_in t i) line w rest ≡ members_entry (facts_at i) line w rest)
     [ words.Chan ↦ refl | _ ↦ refl ]
 
-ok_and : {A E : Type 0} {P Q : A → Type 0} (x : Result A E) → ((a : A) → P a → Q a) → IsOkAnd x P → IsOkAnd x Q
-ok_and (Ok a) on is = on a is
-ok_and (Err e) on is = absurd is
-
 cue_said_by : (r : Reader) (moves : List Move) (old new : Cue) (q i : ℕ) (result : Result Bool TextFault) (x : Result Entry TextFault)
     → r.section ≡ InCue old.number → r.ended ≡ false → CueSays x old new r.part q result
     → Said (opened r (open_records.Cue old) moves) (opened (record r { part = q }) (open_records.Cue new) moves) i result x
-cue_said_by r moves old new q i (Ok true) x inside going says = ok_and x (λ e change. cue_step r moves inside going change) says
+cue_said_by r moves old new q i (Ok true) (Ok e) inside going says = cue_step r moves inside going says
+cue_said_by r moves old new q i (Ok true) (Err fault) inside going says = absurd says
 cue_said_by r moves old new q i (Ok false) x inside going says =
     (says.0, λ j. opened (record r { part = says.1.1 j }) (open_records.Cue (says.1.0 j)) moves)
 cue_said_by r moves old new q i (Err fault) x inside going says = says
@@ -147,7 +144,7 @@ cue_stops old new p q (Err told) x fault stop is = is ∙ ap Err (sym stop)
 pub times_say : (make : ℕ → ℕ → Entry) (i : ℕ) (rest : List (List ℕ)) (t : ℕ × ℕ) (old new : Cue) (p : ℕ) → Ok t ≡ next_times i rest
     → ChangesCue old new p p (make t.0 t.1) → IsOkAnd (times i make rest) (ChangesCue old new p p)
 times_say make i rest t old new p numbers change =
-    subst (λ v. IsOkAnd v (ChangesCue old new p p)) (sym (times_ok i make rest t numbers)) change
+    subst (λ v. IsOkAnd v (ChangesCue old new p p)) (sym (times_are i make rest numbers)) change
 
 -- The same of whatever record is open.
 module _ {g : ShowPass} {i : ℕ} (pass : IsReady g i) where
@@ -168,11 +165,9 @@ module _ {g : ShowPass} {i : ℕ} (pass : IsReady g i) where
         → Said (settled g) (opened (record g.reader { part = q }) (open_records.Cue new) g.moves) i result
         (inner_entry g.reader.section (facts_of (settled g) i) line word rest)
     said_in_cue new q line word rest result says =
-        let now = opened (record g.reader { part = q }) (open_records.Cue new) g.moves in
         let t : ReadingState = state_of (opened g.reader (open_records.Cue cue) g.moves) in
-        subst (λ (o : Open). Said (opened g.reader o g.moves) now i result
-        (inner_entry g.reader.section (facts_of (opened g.reader o g.moves) i) line word rest)) (sym is)
-        (subst (Said (opened g.reader (open_records.Cue cue) g.moves) now i result)
+        rw is (subst (Said (opened g.reader (open_records.Cue cue) g.moves) (opened (record g.reader { part = q })
+        (open_records.Cue new) g.moves) i result)
         (sym (ap (λ s. inner_entry s (facts_in t i) line word rest) held_cue.0 ∙ cue_at t i line word rest))
         (cue_said_by g.reader g.moves cue new q i result (cue_entry (facts_at i) line word rest) held_cue.0 pass.ready.going says))
 
@@ -188,7 +183,8 @@ module _ {g : ShowPass} {i : ℕ} (pass : IsReady g i) where
     fits_in_cue new q (Err fault) x says = tt
 
   -- A group or submaster, as it is seen and as it is.
-  module _ (make : MemberSet → Open) (section : ℕ → Section) {set seen : MemberSet} (label : List ℕ) (is : g.held ≡ make set) (view : seen ≡ set)
+  module _ (make : MemberSet → Open) (section : ℕ → Section) {set seen : MemberSet} (label : List ℕ) (is : g.held ≡ make set)
+      (view : seen ≡ set)
       (inside : g.reader.section ≡ section set.number) where
     pub said_in_set : (line : List ℕ) (word : Word) (rest : List (List ℕ)) (b : Bool)
         → ((facts : Facts) → inner_entry (section set.number) facts line word rest ≡ members_entry facts line word rest)
@@ -211,7 +207,4 @@ module _ {g : ShowPass} {i : ℕ} (pass : IsReady g i) where
     pub fits_in_set : (limit : ℕ) (b : Bool) (x : Result Entry TextFault) → SetFits limit g.reader.show g.moves set
         → LabelSays x seen.label label b
         → (g.reader.section ≡ section seen.number) × SetFits limit g.reader.show g.moves (relabelled label seen)
-    fits_in_set limit b x fits says =
-        subst (λ (s : MemberSet). (g.reader.section ≡ section s.number) × SetFits limit g.reader.show g.moves (relabelled label s)) (sym view)
-        (inside, label_fits limit g.reader.show g.moves set label b x fits
-        (subst (λ (s : MemberSet). LabelSays x s.label label b) view says))
+    fits_in_set limit b x fits says = rw view (inside, label_fits limit g.reader.show g.moves set label b x fits (rw view at says))

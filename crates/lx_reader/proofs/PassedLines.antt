@@ -1,9 +1,9 @@
 -- Lines that were handed out, and the state that they come to.
-use Rattle.lx_reader.proofs.Imports.{◌≡◌, ℕ, ◌<◌, ◌≤◌, ◌+◌, true, false, List, [], ◌∷◌, ◌++◌, map, length, take, Option, Some, None, Ok, Err}
-use Rattle.lx_reader.proofs.Imports.{refl, ap, ◌∙◌, sym, subst, inl, inr, arith, length-append, drop, IfSome, take-append_seam}
-use Rattle.lx_reader.proofs.Imports.{map-append, length-map, INPUT_BYTES, Form, TextFault, NoEndData, desk_limits, without_cr, lines_of, Entry, is_end}
-use Rattle.lx_reader.proofs.Imports.{entry_of, reads_lines, lines_read, script_of, Lines, StepOf, LinesBetween, NotTaken, HandedOut, unread}
-use Rattle.lx_reader.proofs.Imports.{current_line, handed_none, handed_then, cut_off, ReadingState, first_state, state_after, facts_in, final_reading}
+use Rattle.lx_reader.proofs.Imports.{◌≡◌, ℕ, ◌<◌, ◌≤◌, ◌+◌, true, false, List, [], ◌∷◌, ◌++◌, map, length, take, Option, Some, None, Ok, Err, ap}
+use Rattle.lx_reader.proofs.Imports.{◌∙◌, sym, subst, inl, inr, arith, length-append, drop, IfSome, take-append_seam, map-append, length-map}
+use Rattle.lx_reader.proofs.Imports.{INPUT_BYTES, Form, TextFault, NoEndData, desk_limits, without_cr, lines_of, Entry, is_end, entry_of}
+use Rattle.lx_reader.proofs.Imports.{reads_lines, lines_read, script_of, Lines, StepOf, LinesBetween, NotTaken, HandedOut, unread, current_line}
+use Rattle.lx_reader.proofs.Imports.{handed_none, handed_then, cut_off, ReadingState, first_state, state_after, facts_in, final_reading}
 use Rattle.lx_reader.proofs.Imports.{MeansShow, MeansFault, IsPastLimit, IsCutShort, ToldBySource}
 use Rattle.std.proofs.Math.Seq.{drop-append_seam}
 use Rattle.std.specs.Io.KnownBytes.{IsAtEnd}
@@ -12,7 +12,8 @@ use Rattle.lx_spec.specs.CutInput.{CutOff, first_lines}
 use Rattle.lx_lex.specs.declared.lines.Step.TheVariants as steps
 use Rattle.lx_lex.proofs.TakenLines.{next_too_long, all_texts, texts}
 use Rattle.lx_reader.proofs.ReadingStates.{skipped_few}
-use Rattle.lx_reader.proofs.ReadLines.{ReadSoFar, AreAll, are_read, read_none, read_more, read_refused, read_ended, read_open, wanted_more, wanted_one}
+use Rattle.lx_reader.proofs.ReadLines.{ReadSoFar, AreAll, are_read, read_none, read_more, read_refused, read_ended, read_open, wanted_more}
+use Rattle.lx_reader.proofs.ReadLines.{wanted_one}
 
 -- The lines that were handed out and taken up.
 pub record PassedLines {S : Type 0} (told : ToldBySource S) (old new : Lines S) (t : ReadingState) : Type 0 where
@@ -110,7 +111,8 @@ module _ {S : Type 0} {told : ToldBySource S} {old l : Lines S} {t : ReadingStat
     pub lines_refused : (form : Form) {fault : TextFault} → entry_of (facts_in t (l.number + 1)) (without_cr raw) ≡ Err fault
         → MeansFault told old form fault
     lines_refused form {fault} says =
-        let all : AreAll form (map without_cr (past.raws ++ raw ∷ [])) (Err fault) = rw texts_more (read_refused past.so_far form (without_cr raw) says) in
+        let all : AreAll form (map without_cr (past.raws ++ raw ∷ [])) (Err fault) = rw texts_more (read_refused past.so_far form
+        (without_cr raw) says) in
         record {
           raws = past.raws ++ raw ∷ [];
           unread_then = unread told l';
@@ -133,7 +135,8 @@ module _ {S : Type 0} {told : ToldBySource S} {old l : Lines S} {t : ReadingStat
     count = l.number + 1;
     whole = inr end;
     lines = read_open past.so_far form;
-    text = text_whole (λ v. reads_lines desk_limits form v ≡ Err (NoEndData (l.number + 1))) past.handed.took end (read_open past.so_far form);
+    text = text_whole (λ v. reads_lines desk_limits form v ≡ Err (NoEndData (l.number + 1))) past.handed.took end
+        (read_open past.so_far form);
     wanted = text_whole (λ v. lines_read v ≡ l.number + 1) past.handed.took end (wanted_one past.so_far);
   }
 

@@ -1,8 +1,7 @@
 -- A sorted list placed over another one: of each number its entry counts, where it has one.
-use Rattle.lx_reader.proofs.Imports.{◌≡◌, ℕ, ◌<◌, Bool, List, [], ◌∷◌, ◌++◌, Option, Some, None, refl, ap, ◌∙◌, sym, inl, inr, arith, filter, fold}
-use Rattle.lx_reader.proofs.Imports.{length, nat_lt, AllByRecursion, cases_eq, map-append, Member, Move, IsStrictlySorted, all_placed, entry_at}
-use Rattle.lx_reader.proofs.Imports.{placed, each, IsStrictlySorted-placed, entry_at-placed_here, entry_at-placed_other, IsStrictlySorted-all_placed}
-use Rattle.lx_reader.proofs.Imports.{members_of, later, moves_of, cases_Bool}
+use Rattle.lx_reader.proofs.Imports.{◌≡◌, ℕ, List, [], ◌∷◌, Option, Some, None, refl, ap, ◌∙◌, sym, inl, inr, arith, fold, cases_eq, Member}
+use Rattle.lx_reader.proofs.Imports.{Move, IsStrictlySorted, all_placed, entry_at, placed, each, IsStrictlySorted-placed, entry_at-placed_here}
+use Rattle.lx_reader.proofs.Imports.{entry_at-placed_other, IsStrictlySorted-all_placed, members_of, later, moves_of}
 use Rattle.std.proofs.lemmas.List.Folds.{fold-map}
 use Rattle.lx_show.proofs.SameLists.{first_here, first_other, none_low, same_lists}
 use Rattle.lx_reader.proofs.Members.{all_map}
@@ -48,11 +47,6 @@ or_none : {A : Type 0} (o : Option A) → later o None ≡ o
 or_none None = refl
 or_none (Some x) = refl
 
--- over nothing it is as it is
-pub placed_alone : {A : Type 0} (key : A → ℕ) (over : List A) → IsStrictlySorted key over → all_placed key over [] ≡ over
-placed_alone key over rises = same_lists key (all_placed key over []) over (IsStrictlySorted-all_placed key over [] tt) rises
-    (λ n. entry_over key n over [] rises ∙ or_none (entry_at key n over))
-
 -- The levels of moves.
 abbrev member_of : Move → Member
 member_of m = record { chan = m.chan; level = m.level }
@@ -82,7 +76,9 @@ pub levels_are_placed : (members : List Member) (moves : List Move)
     → levels_placed members moves ≡ all_placed (λ x. x.chan) (members_of moves) members
 levels_are_placed members moves = sym (fold-map (λ ms (m : Member). placed (λ x. x.chan) m ms) member_of members moves)
 
-pub placed_alone_at : {A : Type 0} (key : A → ℕ) (over list old : List A) → IsStrictlySorted key over → list ≡ over
-    → old ≡ [] → list ≡ all_placed key over old
-placed_alone_at key over list old rises is none =
-    is ∙ sym (placed_alone key over rises) ∙ ap (all_placed key over) (sym none)
+-- over nothing it is as it is
+pub placed_alone : {A : Type 0} (key : A → ℕ) (over list old : List A) → IsStrictlySorted key over → list ≡ over → old ≡ []
+    → list ≡ all_placed key over old
+placed_alone key over list old rises is none =
+    is ∙ sym (same_lists key (all_placed key over []) over (IsStrictlySorted-all_placed key over [] tt) rises
+    (λ n. entry_over key n over [] rises ∙ or_none (entry_at key n over))) ∙ ap (all_placed key over) (sym none)

@@ -105,7 +105,8 @@ module _ {lines : List (List ℕ)} {i : ℕ} {t : ReadingState} (so_far : ReadSo
 
   -- No line has ended the reading.
   pub read_open : (form : Form) → reads_lines desk_limits form lines ≡ Err (NoEndData i)
-  read_open form = ap (reads_lines desk_limits form) (sym (append-nil lines)) ∙ ap (λ r. r >>= (λ all. Ok (reading_from form all))) (so_far.whole [])
+  read_open form = ap (reads_lines desk_limits form) (sym (append-nil lines)) ∙ ap (λ r. r >>= (λ all. Ok (reading_from form all)))
+      (so_far.whole [])
 
   -- more lines are wanted than those, and where none is left one more than there are
   pub wanted_more : (more : List (List ℕ)) → length lines < lines_read (lines ++ more)

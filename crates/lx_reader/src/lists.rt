@@ -87,6 +87,7 @@ fn near_level(tokens: &mut Tokens) -> Option<Level>
 
 /// The next channel and level of a list of pairs, where the tokens stand in another way; none at its end. A fault is that of the whole list.
 #[inline(never)]
+#[tactic(auto, using(crate::proofs::Pairs::member_first))]
 pub(crate) fn far_member(i: u32, tokens: &mut Tokens) -> Result<Option<Member>, TextFault>
     ensures fewer { TakesSome (left tokens.old) (left tokens.new) result }
     ensures list { IsNext (all_pairs i) (left tokens.old) (left tokens.new) result }
@@ -152,6 +153,7 @@ fn other_level(tokens: &mut Tokens) -> Option<Level>
 
 /// The level of this many percent; none above 100.
 #[inline(always)]
+#[tactic(auto, using(crate::proofs::PercentLevels::percent_at))]
 fn plain_level(percent: u32) -> Option<Level>
     ensures { IfSome result (λ level. (percent ≤ 100) × (level ≡ percent_level percent)) }
 {
@@ -185,6 +187,7 @@ fn any_member(i: u32, tokens: &mut Tokens) -> Result<Option<Member>, TextFault>
 
 /// The next channel, dimmer and level of a list of triples; none at its end. A fault is that of the whole list.
 #[inline(always)]
+#[tactic(auto, using(crate::proofs::Pairs::row_first))]
 pub(crate) fn next_row(i: u32, tokens: &mut Tokens) -> Result<Option<PatchRow>, TextFault>
     ensures fewer { TakesSome (left tokens.old) (left tokens.new) result }
     ensures list { IsNext (all_triples i) (left tokens.old) (left tokens.new) result }
@@ -215,6 +218,7 @@ fn near_row(tokens: &mut Tokens) -> Option<PatchRow>
 
 /// The same as `next_row`, where the tokens stand in another way.
 #[inline(never)]
+#[tactic(auto, using(crate::proofs::Pairs::row_first))]
 fn far_row(i: u32, tokens: &mut Tokens) -> Result<Option<PatchRow>, TextFault>
     ensures fewer { TakesSome (left tokens.old) (left tokens.new) result }
     ensures list { IsNext (all_triples i) (left tokens.old) (left tokens.new) result }

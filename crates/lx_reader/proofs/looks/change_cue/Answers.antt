@@ -1,4 +1,3 @@
-use Rattle.lx_reader.proofs.Imports.{◌≡◌}
 use Rattle.lx_reader.proofs.LookMoves.{is_made, fit_at, changed_at}
 use Rattle.lx_reader.proofs.looks.change_cue.Goals as goal
 

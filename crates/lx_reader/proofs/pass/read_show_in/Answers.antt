@@ -32,7 +32,8 @@ pub loop-reader-preserved : goal.loop-reader-preserved
 loop-reader-preserved g c =
     let e = c.in_ok-read_line.ensures in
     record {
-      passage = passage_more c.loop-reader.invariant.passage c.read_line.new.lines c.args.form (settled c.read_line.new.reader) e.turn c.if-reader.false;
+      passage = passage_more c.loop-reader.invariant.passage c.read_line.new.lines c.args.form (settled c.read_line.new.reader) e.turn
+          c.if-reader.false;
       fits = e.fits;
       count = e.cause.kept ∙ c.loop-reader.invariant.count;
     }

@@ -10,7 +10,8 @@ returns-in_err-s-clause-outcome g c =
 
 pub returns-in_default-clause-outcome : goal.returns-in_default-clause-outcome
 returns-in_default-clause-outcome g c =
-    other_page c.requires (record_says c.requires (λ said. said) InSub (read_whole 1 SUBS) (left c.args.tokens) (read_as c.in_ok-s.ensures c.in_default.is))
+    other_page c.requires (record_says c.requires (λ said. said) InSub (read_whole 1 SUBS) (left c.args.tokens)
+    (read_as c.in_ok-s.ensures c.in_default.is))
     c.skip_record.ensures
 
 pub returns-clause-outcome : goal.returns-clause-outcome
