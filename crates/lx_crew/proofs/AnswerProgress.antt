@@ -11,7 +11,8 @@ use Rattle.std.specs.Result.{result_err}
 use Rattle.std.proofs.KnownBytes.{Appends-nil, Appends-trans, Appends-kept}
 use Rattle.std.proofs.lemmas.Grind.{flat_map-append}
 use Rattle.lx_crew.proofs.Lists.{long_means}
-use Rattle.lx_crew.proofs.LastEntries.{at_least_first, at_least_then, front_more, front_of, front_then, names_written, session_before, text_before}
+use Rattle.lx_session.proofs.ScriptEnds.{front_more, front_of}
+use Rattle.lx_crew.proofs.LastEntries.{at_least_first, at_least_then, front_then, names_written, session_before, text_before}
 use Rattle.lx_session.specs.LineAnswer.{FromDesk}
 use Rattle.lx_session.specs.LineReply.{counts_in}
 use Rattle.lx_session.specs.LineState.{meaning_of}

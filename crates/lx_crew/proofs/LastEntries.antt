@@ -9,23 +9,13 @@ use Rattle.std.proofs.lemmas.List.{length-drop}
 use Rattle.std.specs.Prelude.{flat_map}
 use Rattle.std.proofs.Math.Seq.{drop-append_seam}
 use Rattle.std.proofs.KnownBytes.{Appends-trans}
-use Rattle.lx_io.proofs.Chain.{AppendsFront-is, AppendsFront-from}
+use Rattle.lx_io.proofs.Chain.{AppendsFront-is}
 use Rattle.lx_session.proofs.EachLine.{each-append}
+use Rattle.lx_session.proofs.ScriptEnds.{front_of}
 
 -- a text was appended that begins so
 pub at_least : (a b : Option (List ℕ)) (text more whole : List ℕ) → whole ≡ text ++ more → Appends a b whole → AppendsAtLeast a b text
 at_least a b text more whole is p = (more, subst (λ (v : List ℕ). Appends a b v) is p)
-
-pub front_of : (a b : Option (List ℕ)) (front rest text : List ℕ) → text ≡ front ++ rest → Appends a b front → AppendsFront a b text
-front_of a b front rest text is p = AppendsFront-from a b text (length front)
-    (subst (λ (v : List ℕ). Appends a b v) (sym (ap (take (length front)) is ∙ take-append_seam front rest)) p)
-
--- a front of a text is one of a longer text
-pub front_more : (a b : Option (List ℕ)) (text more whole : List ℕ) → whole ≡ text ++ more → AppendsFront a b text → AppendsFront a b whole
-front_more a b text more whole is p =
-    let part = AppendsFront-is a b text p in
-    front_of a b (take part.0 text) (drop part.0 text ++ more) whole
-    (is ∙ ap (λ v. v ++ more) (sym (take-append-drop part.0 text)) ∙ append_assoc (take part.0 text) (drop part.0 text) more) part.1
 
 -- a text was appended, and a front of another
 pub front_then : (a b c : Option (List ℕ)) (text other : List ℕ) → Appends a b text → AppendsFront b c other → AppendsFront a c (text ++ other)

@@ -159,8 +159,8 @@ last_kept told b c (Some ends.InputTooLong) t other = t.2
 module _ {S : Type 0} (told : ToldBySource S) (source : S) (a b c : Lines S) (began : Began told source a) (s : Passed told a b) where
   quit_are : (q : QuitLine told b c)
       → IfSome (unread told a) (λ bytes. AreLines None bytes (told.left c.source.now) (map without_cr s.raws ++ without_cr q.raw ∷ []))
-  quit_are q = with_both (unread told a) _ _ _ (begins_more (unread told a) (unread told c) a.taken c.taken s.raws q.raw
-      (handed_then told a b c s.raws (q.raw ∷ []) s.handed q.handed).took) (fits told a b c s (inr q)) (λ xs e within. record {
+  quit_are q = with_both (unread told a) _ _ _ (begins_more s.raws q.raw (handed_then told a b c s.raws (q.raw ∷ []) s.handed q.handed).took)
+      (fits told a b c s (inr q)) (λ xs e within. record {
         are = wanted_quit (map without_cr s.raws) (without_cr q.raw) e.0 s.go_on q.quits ∙ ap (λ ls. take (lines_wanted ls) ls) (sym e.1);
         within = omega (arith, within, began.taken);
       })
@@ -168,7 +168,7 @@ module _ {S : Type 0} (told : ToldBySource S) (source : S) (a b c : Lines S) (be
   cut_are : NotTaken told b c → IfSome (unread told a) (λ bytes. CutLines bytes (told.left c.source.now) (map without_cr s.raws))
   cut_are n =
       let lines = map without_cr s.raws in
-      with_both (unread told a) _ _ _ (begins (unread told a) (unread told b) a.taken b.taken s.raws s.handed.took)
+      with_both (unread told a) _ _ _ (begins s.handed.took)
       (subst (λ k. IfSome (unread told a) (λ xs. (cut : CutOff k xs (told.left c.source.now)) × (cut.lines ≡ length s.raws))) began.taken
       (cut_off told a b c s.raws s.handed.took n)) (λ xs is cut. record {
         cut = cut.0;

@@ -1,12 +1,13 @@
--- A cue from the entries in its sections, with one more.
-use Rattle.lx_reader.proofs.Imports.{◌≡◌, ℕ, Bool, true, false, cond, List, [], ◌∷◌, ◌++◌, map, Option, Some, None, refl, ap, ◌∙◌, sym, append-nil}
-use Rattle.lx_reader.proofs.Imports.{filter, fold, filter_map, unwrap_or, ◌==◌, cons_option, DEFAULT_TIME, Part, Section, Cue, IsStrictlySorted}
-use Rattle.lx_reader.proofs.Imports.{placed, has_entry, Entry, PlacedEntry, HasUp, HasDown, NamesPart, part_named, follow_in, link_in, label_in}
-use Rattle.lx_reader.proofs.Imports.{up_in, down_in, blocks, is_assert, last_of_each, last_in, moves_in, part_from, parts_from, label_from, cue_from}
-use Rattle.lx_reader.proofs.Imports.{new_part, changed, part_with_entry, with_up, with_down, parts_with, cue_with, change_by}
+-- A cue, group or submaster from the entries in its sections, with one more.
+use Rattle.lx_reader.proofs.Imports.{◌≡◌, ℕ, Bool, true, false, cond, List, [], ◌∷◌, ◌++◌, map, Option, Some, None, refl, ap, ◌∙◌, sym}
+use Rattle.lx_reader.proofs.Imports.{append-nil, filter, fold, filter_map, unwrap_or, ◌==◌, cons_option, DEFAULT_TIME, Part, Section, Cue}
+use Rattle.lx_reader.proofs.Imports.{IsStrictlySorted, placed, has_entry, Entry, PlacedEntry, HasUp, HasDown, NamesPart, part_named}
+use Rattle.lx_reader.proofs.Imports.{follow_in, link_in, label_in, up_in, down_in, blocks, is_assert, last_of_each, last_in, moves_in}
+use Rattle.lx_reader.proofs.Imports.{part_from, parts_from, label_from, cue_from, new_part, changed_in, with_named, eqb-true, IfSome, subst}
+use Rattle.lx_reader.proofs.Imports.{with_up, with_down, parts_with, cue_with, change_by, MemberSet, HasLevels, levels_in, group_from}
+use Rattle.lx_reader.proofs.Imports.{set_with}
 use Rattle.lx_reader.proofs.LastEntries.{last_in-more, any-more, unwrap-later, filter-more, fold_flat-more, fold_picked-more}
-use Rattle.lx_reader.proofs.MadeEntries.{cond_same, after_change}
-use Rattle.lx_reader.proofs.PlacedNumbers.{changed-made, map-placed, placed-there, has_made, eq-sym, eq-here, IsStrictlySorted-numbers}
+use Rattle.lx_reader.proofs.PlacedNumbers.{IsStrictlySorted-numbers, after_change, listed-more}
 
 -- the times that an entry gives a part
 abbrev pub times_with : Entry → Part → Part
@@ -60,66 +61,36 @@ abbrev pub HasPart : List PlacedEntry → ℕ → Type 0
 HasPart about p = has_entry (λ m. m) p (parts_named about) ≡ true
 
 -- of a part that is absent nothing was said
-abbrev pub IsFresh : List PlacedEntry → Option ℕ → Type 0
-IsFresh about None = Unit {0}
-IsFresh about (Some q) = has_entry (λ m. m) q (parts_named about) ≡ false → part_of about q ≡ new_part q
+abbrev pub ArePartsRooted : List PlacedEntry → Type 0
+ArePartsRooted about = (q : ℕ) → has_entry (λ m. m) q (parts_named about) ≡ false → filter (λ s. s.part == q) about ≡ []
 
--- an entry that gives no times leaves the parts as they are
-quiet : (about : List PlacedEntry) (p : ℕ)
-    → map (λ q. cond (p == q) (part_of about q) (part_of about q)) (parts_named about) ≡ parts_from about
-quiet about p = λ i. map (λ q. cond_same (p == q) (part_of about q) i) (parts_named about)
+-- what an entry makes of its part
+abbrev times_change : Entry → Option (Part → Part)
+times_change (HasUp time delay) = Some (with_up time delay)
+times_change (HasDown time delay) = Some (with_down time delay)
+times_change other = None
 
-parts_changed : (about : List PlacedEntry) (s : PlacedEntry) (change : Part → Part)
-    → ((part : Part) → times_with s.entry part ≡ change part) → HasPart about s.part
-    → map (λ p. part_with s (part_of about p)) (parts_named about) ≡ changed (λ part. part.number) s.part change (parts_from about)
-parts_changed about s change is there =
-    let g : ℕ → Part = λ p. part_with s (part_of about p) in
-    let keeps : (m : ℕ) → (g m).number ≡ m =
-    λ m. elim (s.part == m) as (λ b. (cond b (times_with s.entry (part_of about m)) (part_of about m)).number ≡ m)
-    [ true ↦ refl | false ↦ refl ] in
-    let same : (m : ℕ) → (m == s.part) ≡ false → g m ≡ part_of about m =
-    λ m differs. ap (λ b. cond b (times_with s.entry (part_of about m)) (part_of about m)) (eq-sym m s.part differs) in
-    let here : g s.part ≡ change (part_of about s.part) =
-    ap (λ b. cond b (times_with s.entry (part_of about s.part)) (part_of about s.part)) (eq-here s.part) ∙ is (part_of about s.part) in
-    changed-made (λ part. part.number) (part_of about) g (λ m. refl) keeps s.part same change here (parts_named about) (parts_sorted about)
-    there
+times_given : (e : Entry) (part : Part) → times_with e part ≡ after_change (times_change e) part
+times_given e part = elim e as (λ e. times_with e part ≡ after_change (times_change e) part) [ HasUp time delay ↦ refl | _ ↦ refl ]
 
-part_added : (about : List PlacedEntry) (q : ℕ) (b : Bool) → has_entry (λ m. m) q (parts_named about) ≡ b → IsFresh about (Some q)
-    → map (part_of about) (placed (λ m. m) q (parts_named about))
-    ≡ cond b (parts_from about) (placed (λ part. part.number) (new_part q) (parts_from about))
-part_added about q true there fresh = ap (λ v. map (part_of about) v) (placed-there q (parts_named about) (parts_sorted about) there)
-part_added about q false absent fresh =
-    map-placed (λ part. part.number) (part_of about) (λ m. refl) q (parts_named about)
-    ∙ ap (λ part. placed (λ x. x.number) part (parts_from about)) (fresh absent)
+named_alone : (e : Entry) → IfSome (part_named e) (λ q. times_change e ≡ None)
+named_alone e = elim e as (λ e. IfSome (part_named e) (λ q. times_change e ≡ None)) [ NamesPart q ↦ refl | _ ↦ tt ]
 
-part_opened : (about : List PlacedEntry) (p q : ℕ) → IsFresh about (Some q)
-    → map (λ m. cond (p == m) (part_of about m) (part_of about m)) (placed (λ m. m) q (parts_named about)) ≡ part_with_entry q (parts_from about)
-part_opened about p q fresh =
-    (λ i. map (λ m. cond_same (p == m) (part_of about m) i) (placed (λ m. m) q (parts_named about)))
-    ∙ part_added about q (has_entry (λ m. m) q (parts_named about)) refl fresh
-    ∙ ap (λ b. cond b (parts_from about) (placed (λ part. part.number) (new_part q) (parts_from about)))
-    (sym (has_made (λ part. part.number) (part_of about) (λ m. refl) q (parts_named about)))
+parts_said : (p : ℕ) (e : Entry) (parts : List Part) → changed_in (λ part. part.number) (times_change e) (Some p)
+    (with_named (λ part. part.number) new_part (part_named e) parts) ≡ parts_with p e parts
+parts_said p e parts = elim e as (λ e. changed_in (λ part. part.number) (times_change e) (Some p)
+    (with_named (λ part. part.number) new_part (part_named e) parts) ≡ parts_with p e parts) [ NamesPart q ↦ refl | _ ↦ refl ]
 
-parts-with : (about : List PlacedEntry) (section : Section) (p : ℕ) (entry : Entry) → HasPart about p → IsFresh about (part_named entry)
-    → map (λ q. part_with (record { section = section; part = p; entry = entry }) (part_of about q))
-    (fold (λ ys x. placed (λ m. m) x ys) (parts_named about) (cons_option (part_named entry) []))
-    ≡ parts_with p entry (parts_from about)
-parts-with about section p entry there = elim entry as (λ e. IsFresh about (part_named e)
-    → map (λ q. part_with (record { section = section; part = p; entry = e }) (part_of about q))
-    (fold (λ ys x. placed (λ m. m) x ys) (parts_named about) (cons_option (part_named e) [])) ≡ parts_with p e (parts_from about)) [
-      | HasUp time delay ↦ λ _. parts_changed about (record { section = section; part = p; entry = HasUp time delay }) (with_up time delay)
-          (λ part. refl) there
-      | HasDown time delay ↦ λ _. parts_changed about (record { section = section; part = p; entry = HasDown time delay })
-          (with_down time delay) (λ part. refl) there
-      | NamesPart q ↦ λ fresh. part_opened about p q fresh
-      | _ ↦ λ _. quiet about p
-    ]
-
-pub parts-more : (about : List PlacedEntry) (section : Section) (p : ℕ) (entry : Entry) → HasPart about p → IsFresh about (part_named entry)
+pub parts-more : (about : List PlacedEntry) (section : Section) (p : ℕ) (entry : Entry) → HasPart about p → ArePartsRooted about
     → parts_from (about ++ record { section = section; part = p; entry = entry } ∷ []) ≡ parts_with p entry (parts_from about)
-parts-more about section p entry there fresh =
+parts-more about section p entry there rooted =
     let s : PlacedEntry = record { section = section; part = p; entry = entry } in
-    (λ i. map (λ q. part_of-more about s q i) (parts_named-more about s i)) ∙ parts-with about section p entry there fresh
+    (λ i. map (λ q. part_of-more about s q i) (parts_named-more about s i))
+    ∙ listed-more (λ part. part.number) new_part (part_named entry) (times_change entry) (Some p) (part_of about)
+    (λ q. part_with s (part_of about q)) (parts_named about) (named_alone entry) (λ part. sym (ap (λ v. v.number) (times_given entry part)))
+    (λ m. refl) (parts_sorted about) (λ n is. subst (λ k. HasPart about k) (eqb-true p n is) there)
+    (λ q absent. ap (λ v. part_from v q) (rooted q absent)) (λ n i. cond (p == n) (times_given entry (part_of about n) i) (part_of about n))
+    ∙ parts_said p entry (parts_from about)
 
 pub label-more : (about : List PlacedEntry) (s : PlacedEntry)
     → label_from (about ++ s ∷ []) ≡ unwrap_or (label_in s.entry) (label_from about)
@@ -130,18 +101,17 @@ cue_speaking : (p : ℕ) (entry : Entry) (cue : Cue) → cue_with p entry cue �
 cue_speaking p entry cue = elim entry as (λ e. cue_with p e cue ≡ after_change (change_by (cue_with p) e) cue)
     [ NamesPart q ↦ refl | _ ↦ refl ]
 
-pub cue_from-with : (about : List PlacedEntry) (section : Section) (p : ℕ) (entry : Entry) (n : ℕ) → HasPart about p
-    → IsFresh about (part_named entry)
+pub cue_from-with : (about : List PlacedEntry) (section : Section) (p : ℕ) (entry : Entry) (n : ℕ) → HasPart about p → ArePartsRooted about
     → cue_from (about ++ record { section = section; part = p; entry = entry } ∷ []) n
     ≡ after_change (change_by (cue_with p) entry) (cue_from about n)
-cue_from-with about section p entry n there fresh =
+cue_from-with about section p entry n there rooted =
     let s : PlacedEntry = record { section = section; part = p; entry = entry } in
     let block = any-more (λ z. blocks z.entry) about s in
     let asserted = any-more (λ z. is_assert z.entry) about s in
     let follow = last_in-more follow_in about s in
     let link = last_in-more link_in about s in
     let label = label-more about s in
-    let parts = parts-more about section p entry there fresh in
+    let parts = parts-more about section p entry there rooted in
     let moves = fold_flat-more (λ ys x. placed (λ m. m.chan) x ys) [] moves_in about s in
     (λ i. record {
       number = n;
@@ -154,3 +124,18 @@ cue_from-with about section p entry n there fresh =
       moves = moves i;
     })
     ∙ cue_speaking p entry (cue_from about n)
+
+-- A group or submaster from the entries in its sections, with one more.
+set_speaking : (entry : Entry) (set : MemberSet) → set_with entry set ≡ after_change (change_by set_with entry) set
+set_speaking entry set = elim entry as (λ e. set_with e set ≡ after_change (change_by set_with e) set)
+    [ HasLevels members ↦ refl | _ ↦ refl ]
+
+pub set_from-with : (about : List PlacedEntry) (s : PlacedEntry) (n : ℕ)
+    → group_from (about ++ s ∷ []) n ≡ after_change (change_by set_with s.entry) (group_from about n)
+set_from-with about s n = (λ i. record {
+  number = n;
+  label = label-more about s i;
+  members = fold_flat-more
+      (λ ys x. placed (λ m. m.chan) x ys) [] (λ z. levels_in z.entry) about s i;
+})
+    ∙ set_speaking s.entry (group_from about n)

@@ -1,10 +1,11 @@
 -- What the proofs of this crate import from its specs and from other crates. It declares nothing.
-pub use Rattle.std.proofs.Common.{[], ℕ, ◌%◌, ◌&&◌, ◌*◌, ◌++◌, ◌+◌, ◌-◌, ◌<◌, ◌==◌, ◌||◌, ◌∙◌, ◌∷◌, ◌≡◌, ◌≤◌, add-one, ap, append-nil, append_assoc, arith}
-pub use Rattle.std.proofs.Common.{Bool, codes, cond, count_by, drop, drop-drop, eqb-true, Err, false, filter, filter_map, find, flat_map, fold, get_or, IfErr}
-pub use Rattle.std.proofs.Common.{IfOk, IfSome, inl, inr, is_ok, is_some, IsTrue, length, length-append, List, map, max, nat_lt, None, not, Ok, OnOk, Option}
-pub use Rattle.std.proofs.Common.{option_and_then, option_map, position, refl, replicate, Result, rules, slice_get, slice_set, Some, subst, suc, sym, take}
-pub use Rattle.std.proofs.Common.{take_all, true, unwrap_or, zero}
-pub use Rattle.lx_base.specs.declared.TheConstants.{CHANNELS, CUES, DEFAULT_CHANNELS, DEFAULT_TIME, DIMMERS, GROUPS, INPUT_BYTES, LINE_BYTES, PARTS, SUBS}
+pub use Rattle.std.proofs.Common.{[], ℕ, ◌%◌, ◌&&◌, ◌*◌, ◌++◌, ◌+◌, ◌-◌, ◌<◌, ◌==◌, ◌||◌, ◌∙◌, ◌∷◌, ◌≡◌, ◌≤◌, add-one, ap, append-nil, append_assoc}
+pub use Rattle.std.proofs.Common.{arith, Bool, codes, cond, count_by, drop, drop-drop, eqb-true, Err, false, filter, filter_map, find, flat_map, fold}
+pub use Rattle.std.proofs.Common.{get_or, IfErr, IfOk, IfSome, inl, inr, is_ok, is_some, IsTrue, length, length-append, List, map, max, nat_lt, None}
+pub use Rattle.std.proofs.Common.{not, Ok, OnOk, Option, option_and_then, option_map, position, refl, replicate, Result, slice_get, slice_set, Some}
+pub use Rattle.std.proofs.Common.{subst, suc, sym, take, take_all, true, unwrap_or, zero}
+pub use Rattle.lx_base.specs.declared.TheConstants.{CHANNELS, CUES, DEFAULT_CHANNELS, DEFAULT_TIME, DIMMERS, GROUPS, INPUT_BYTES, LINE_BYTES, PARTS}
+pub use Rattle.lx_base.specs.declared.TheConstants.{SUBS}
 pub use Rattle.lx_lex.proofs.CuttingOff.{cut_off, not_read, too_long}
 pub use Rattle.lx_lex.proofs.HandingOut.{handed_none, handed_one, handed_then}
 pub use Rattle.lx_lex.specs.CutOff.{NotTaken}
@@ -21,26 +22,27 @@ pub use Rattle.lx_reader.specs.LineOutcome.{CanGoOn, facts_of, IsStep, new_reade
 pub use Rattle.lx_reader.specs.LookMoves.{last_look, look_changes, look_move, moves_up_to, with_look}
 pub use Rattle.lx_reader.specs.OpenMoves.{AreNumbered, members_of, moves_there, ReadsLevels}
 pub use Rattle.lx_reader.specs.OpenRecord.{HasPartIn, IsOpen}
-pub use Rattle.lx_reader.specs.ReadingState.{change_by, changed_in, cue_with, facts_in, final_reading, first_state, later, moves_of, new_set, number_begun}
-pub use Rattle.lx_reader.specs.ReadingState.{part_with_entry, parts_with, placed_in, ReadingState, set_with, show_with, speaks, state_after, with_down}
-pub use Rattle.lx_reader.specs.ReadingState.{with_entry, with_named, with_rows, with_up}
-pub use Rattle.lx_reader.specs.Settled.{CueFits, filled_cue, filled_set, is_open, is_record, OpenFits, PassFits, SetFits, settled, with_open}
+pub use Rattle.lx_reader.specs.ReadingState.{change_by, changed_in, cue_with, facts_in, final_reading, first_state, later, moves_of, new_set}
+pub use Rattle.lx_reader.specs.ReadingState.{number_begun, part_with_entry, parts_with, placed_in, ReadingState, set_with, show_with, speaks}
+pub use Rattle.lx_reader.specs.ReadingState.{state_after, with_down, with_entry, with_named, with_rows, with_up}
+pub use Rattle.lx_reader.specs.Settled.{CueFits, filled_cue, filled_set, is_open, is_record, IsBetween, IsReady, OpenFits, PassFits, SetFits, settled}
+pub use Rattle.lx_reader.specs.Settled.{with_open}
 pub use Rattle.lx_reader.specs.declared.fault.ShowFault.{ShowFault}
 pub use Rattle.lx_reader.specs.declared.open_record.Open.{Open}
 pub use Rattle.lx_reader.specs.declared.reader.Reader.{Reader}
 pub use Rattle.lx_show.proofs.ChangedCues.{with_other_moves, with_settings}
 pub use Rattle.lx_show.proofs.Stretches.{All-all_placed, IsStrictlySorted-all_placed}
-pub use Rattle.lx_show.proofs.ValidShows.{wider, wider_cue, wider_members, wider_move, with_channels, with_cues}
+pub use Rattle.lx_show.proofs.ValidShows.{wider, wider_cue, wider_members, wider_move}
 pub use Rattle.lx_show.specs.ChangedEntry.{changed}
 pub use Rattle.lx_spec.proofs.Comparisons.{above_is_other, below_is_other, eq_above, eq_from, eq_true, lt_false, lt_true}
 pub use Rattle.lx_spec.proofs.Lists.{all_append, each, find_has, kept_by}
-pub use Rattle.lx_spec.proofs.SortedLists.{above_seam, All-placed, all_at_seam, below_seam, entry_at-placed_here, entry_at-placed_other, entry_number}
-pub use Rattle.lx_spec.proofs.SortedLists.{found_valid, goes_between, has_placed, IsStrictlySorted-placed, length-placed_there, placed_again, placed_same}
-pub use Rattle.lx_spec.proofs.SortedLists.{seam, stands_between}
+pub use Rattle.lx_spec.proofs.SortedLists.{above_seam, all_at_seam, below_seam, entry_at-placed_here, entry_at-placed_other, entry_number, found_valid}
+pub use Rattle.lx_spec.proofs.SortedLists.{goes_between, has_placed, IsStrictlySorted-placed, placed_again, placed_same, seam, stands_between}
 pub use Rattle.lx_spec.specs.EditedShow.{new_cue, new_part}
-pub use Rattle.lx_spec.specs.Entry.{Asserts, Begins, Blocks, blocks, channels_set, clears_all, ClearsAll, cue_in, down_in, Ends, Entry, follow_in, Follows}
-pub use Rattle.lx_spec.specs.Entry.{group_in, HasChannels, HasDown, HasLevels, HasUp, Identifies, is_assert, is_end, is_skipped, IsLabelled, label_in}
-pub use Rattle.lx_spec.specs.Entry.{levels_in, link_in, Links, NamesPart, part_named, Patches, PlacedEntry, rows_in, section_begun, Skipped, sub_in, up_in}
+pub use Rattle.lx_spec.specs.Entry.{Asserts, Begins, Blocks, blocks, channels_set, clears_all, ClearsAll, cue_in, down_in, Ends, Entry, follow_in}
+pub use Rattle.lx_spec.specs.Entry.{Follows, group_in, HasChannels, HasDown, HasLevels, HasUp, Identifies, is_assert, is_end, is_skipped, IsLabelled}
+pub use Rattle.lx_spec.specs.Entry.{label_in, levels_in, link_in, Links, NamesPart, part_named, Patches, PlacedEntry, rows_in, section_begun, Skipped}
+pub use Rattle.lx_spec.specs.Entry.{sub_in, up_in}
 pub use Rattle.lx_spec.specs.Facts.{Facts, facts_after, first_facts, with_cue_named}
 pub use Rattle.lx_spec.specs.Fields.{delay_at, is_page_one, levels, number, pairs, record_entry, times, triples}
 pub use Rattle.lx_spec.specs.FirstRefusal.{◌>>=◌}
@@ -48,9 +50,11 @@ pub use Rattle.lx_spec.specs.Limits.{desk_limits}
 pub use Rattle.lx_spec.specs.LineRules.{cue_entry, entry_by_tokens, entry_by_word, entry_of, if_few, inner_entry, members_entry}
 pub use Rattle.lx_spec.specs.Looks.{by_form, from_looks}
 pub use Rattle.lx_spec.specs.Numerals.{read_cue_no, read_level, read_time, read_whole}
-pub use Rattle.lx_spec.specs.Reading.{channels_named, count_read, cue_from, each_record, entries, group_from, label_from, last_in, last_of_each, lines_read}
-pub use Rattle.lx_spec.specs.Reading.{moves_in, numbers_begun, part_from, parts_from, reading_from, reads_lines, script_of, show_from, stands_in, sub_from}
-pub use Rattle.lx_spec.specs.Show.{Cue, InRange, IsTime, MemberSet, Show, Valid, ValidCue, ValidGroup, ValidMember, ValidMove, ValidPart, ValidSet, ValidSub}
+pub use Rattle.lx_spec.specs.Reading.{channels_named, count_read, cue_from, each_record, entries, group_from, label_from, last_in, last_of_each}
+pub use Rattle.lx_spec.specs.Reading.{lines_read, moves_in, numbers_begun, part_from, parts_from, reading_from, reads_lines, script_of, show_from}
+pub use Rattle.lx_spec.specs.Reading.{stands_in, sub_from}
+pub use Rattle.lx_spec.specs.Show.{Cue, InRange, IsTime, MemberSet, Show, Valid, ValidCue, ValidGroup, ValidMember, ValidMove, ValidPart, ValidSet}
+pub use Rattle.lx_spec.specs.Show.{ValidSub}
 pub use Rattle.lx_spec.specs.SortedList.{all_placed, entries_above, entries_below, entry_at, has_entry, IsStrictlySorted, placed}
 pub use Rattle.lx_spec.specs.Text.{is_word, lines_of, tokens, without_cr}
 pub use Rattle.lx_spec.specs.TrackedLevel.{cue_of, level_in, move_in}

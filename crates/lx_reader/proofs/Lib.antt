@@ -1,10 +1,7 @@
 pub mod LastEntries
 pub mod PlacedNumbers
-pub mod MadeEntries
 pub mod Cues
-pub mod Groups
 pub mod Shows
-pub mod EntryRoots
 pub mod NamedRecords
 pub mod SectionLevels
 pub mod Members
@@ -22,6 +19,5 @@ pub mod ReadingStates
 pub mod ReadLines
 pub mod PassedLines
 pub mod LinePass
-pub mod WordTable
 pub mod LookMoves
 mod Imports

@@ -11,51 +11,41 @@ use Rattle.lx_reader.proofs.PassedLines.{PassedLines, lines_none, lines_few, lin
 use Rattle.lx_reader.proofs.PassedLines.{lines_past_limit, lines_cut}
 
 -- A line that was handed out and given to the reader.
-pub line_turn : {S : Type 0} (told : ToldBySource S) (l l' : Lines S) (r q : Reader)
-    (result : Result (Unit {0}) ShowFault) (raw line : List ℕ) (i : ℕ) → HandedOut told l l' (raw ∷ []) → line ≡ without_cr raw
-    → i ≡ l.number + 1 → Outcome r q i result (entry_of (facts_of r i) line) → TurnOf told l l' r q result
-line_turn told l l' r q (Ok done) raw line i handed is number took = (
-  raw,
-  handed,
-  subst (λ k. Outcome r q k (Ok done) (entry_of (facts_of r k) (without_cr raw))) number
-      (subst (λ v. Outcome r q i (Ok done) (entry_of (facts_of r i) v)) is took),
-)
-line_turn told l l' r q (Err faults.Memory) raw line i handed is number took = tt
-line_turn told l l' r q (Err faults.ReadFault) raw line i handed is number took = absurd took
-line_turn told l l' r q (Err faults.InputTooLong) raw line i handed is number took = absurd took
-line_turn told l l' r q (Err (faults.Text fault)) raw line i handed is number took =
-    inl (raw, handed, (λ j. entry_of (facts_of r (sym number j)) (sym is j)) ∙ took)
+module _ {S : Type 0} {told : ToldBySource S} {l l' : Lines S} (r q : Reader) {raw : List ℕ} {i : ℕ} (handed : HandedOut told l l' (raw ∷ []))
+    (number : i ≡ l.number + 1) where
+  pub line_turn : {line : List ℕ} (result : Result (Unit {0}) ShowFault) → line ≡ without_cr raw
+      → Outcome r q i result (entry_of (facts_of r i) line) → TurnOf told l l' r q result
+  line_turn (Ok done) is took = (raw, handed, rw (sym number, sym is) took)
+  line_turn (Err faults.Memory) is took = tt
+  line_turn (Err faults.ReadFault) is took = absurd took
+  line_turn (Err faults.InputTooLong) is took = absurd took
+  line_turn (Err (faults.Text fault)) is took = inl (raw, handed, rw (sym number, sym is) took)
+
+  -- A line that is too long.
+  pub long_turn : LINE_BYTES < length (without_cr raw) → TurnOf told l l' r q (Err (faults.Text (LineTooLong i)))
+  long_turn long = inl (
+    raw,
+    handed,
+    long_entry (facts_of r (l.number + 1)) (without_cr raw) long ∙ ap (λ k. Err (LineTooLong k))
+        (sym number),
+  )
 
 -- no line is a failed read
 pub no_read_fault : {P : Type 0} (r q : Reader) (i : ℕ) (result : Result (Unit {0}) ShowFault) (x : Result Entry TextFault)
     → Outcome r q i result x → result ≡ Err faults.ReadFault → P
 no_read_fault r q i result x took read = absurd (subst (λ v. Outcome r q i v x) read took)
 
--- A line that is too long.
-pub long_turn : {S : Type 0} (told : ToldBySource S) (l l' : Lines S) (r q : Reader) (raw : List ℕ) (i : ℕ)
-    → HandedOut told l l' (raw ∷ []) → LINE_BYTES < length (without_cr raw) → i ≡ l.number + 1
-    → TurnOf told l l' r q (Err (faults.Text (LineTooLong i)))
-long_turn told l l' r q raw i handed long number =
-    inl (raw, handed, long_entry (facts_of r (l.number + 1)) (without_cr raw) long ∙ ap (λ k. Err (LineTooLong k)) (sym number))
-
 -- The pass over the lines.
 pub record Passage {S : Type 0} (told : ToldBySource S) (old l : Lines S) (r : Reader) : Type 0 where
   pub past : PassedLines told old l (state_of r)
   pub going : r.ended ≡ false
 
-pub passage_none : {S : Type 0} (told : ToldBySource S) (l : Lines S) (r : Reader) {show : Show} → l.going ≡ true
+pub passage_none : {S : Type 0} (told : ToldBySource S) (l : Lines S) {r : Reader} {show : Show} → l.number ≡ 0 → l.going ≡ true
     → show ≡ first_state.show → r ≡ new_reader show → Passage told l l r
-passage_none told l r going shows is = record {
-  past = subst (PassedLines told l l) (sym (ap state_of is ∙ ap (λ (s : Show). state_of (new_reader s)) shows)) (lines_none told l going);
+passage_none told l first going shows is = record {
+  past = subst (PassedLines told l l) (sym (ap state_of is ∙ ap (λ (s : Show). state_of (new_reader s)) shows))
+      (lines_none told l first going);
   going = ap (λ r. r.ended) is;
-}
-
-pub passage_ready : {S : Type 0} (told : ToldBySource S) (old l : Lines S) (r : Reader) → old.number ≡ 0
-    → Passage told old l r → CanGoOn r (l.number + 1)
-passage_ready told old l r first passage = record {
-  open_section = state_open passage.past.so_far.placed (state_of r) passage.past.so_far.state;
-  few = lines_few told old l (state_of r) first passage.past;
-  going = passage.going;
 }
 
 the_ok : {A E : Type 0} (P : A → Type 0) (x : Result A E) → IsOkAnd x P → (a : A) × (x ≡ Ok a) × P a
@@ -66,51 +56,50 @@ the_ok P (Err e) is = absurd is
 end_adds : (i : ℕ) (r : Reader) (e : Entry) → is_end e ≡ true → state_after i e (state_of r) ≡ state_of r
 end_adds i r e = elim e as (λ e. is_end e ≡ true → state_after i e (state_of r) ≡ state_of r) [ Ends ↦ λ is. refl | _ ↦ λ is. cc ]
 
-module _ {S : Type 0} (told : ToldBySource S) (old l l' : Lines S) (form : Form) (r q : Reader) (first : old.number ≡ 0)
-    (passage : Passage told old l r) where
-  -- what the line says
-  said : (done : Unit {0}) (turn : TurnOf told l l' r q (Ok done)) → (e : Entry)
-      × (entry_of (facts_of r (l.number + 1)) (without_cr turn.0) ≡ Ok e) × IsStep r q (l.number + 1) e
-  said done turn = the_ok (IsStep r q (l.number + 1)) (entry_of (facts_of r (l.number + 1)) (without_cr turn.0)) turn.2
+module _ {S : Type 0} {told : ToldBySource S} {old l : Lines S} {r : Reader} (passage : Passage told old l r) where
+  pub passage_ready : CanGoOn r (l.number + 1)
+  passage_ready =
+      record { open_section = state_open passage.past.so_far.state; few = lines_few passage.past; going = passage.going }
 
-  -- one more line
-  pub passage_more : (done : Unit {0}) → TurnOf told l l' r q (Ok done) → q.ended ≡ false → Passage told old l' q
-  passage_more done turn going =
-      let says = said done turn in
-      let took = says.2 in
-      record {
-        past = subst (PassedLines told old l') (sym took.state)
-            (lines_more told old l (state_of r) first passage.past l' turn.0 says.0 turn.1 says.1 (sym took.ended ∙ going));
-        going = going;
-      }
+  module _ (l' : Lines S) (form : Form) (q : Reader) where
+    -- what the line says
+    said : (turn : TurnOf told l l' r q (Ok tt)) → (e : Entry)
+        × (entry_of (facts_of r (l.number + 1)) (without_cr turn.0) ≡ Ok e) × IsStep r q (l.number + 1) e
+    said turn = the_ok (IsStep r q (l.number + 1)) (entry_of (facts_of r (l.number + 1)) (without_cr turn.0)) turn.2
 
-  -- the line was ENDDATA
-  pub passage_loaded : (result : Result Loaded ShowFault) (done : Unit {0}) → TurnOf told l l' r q (Ok done) → q.ended ≡ true
-      → IsLoaded form q result → AnswerOf told old l' form result
-  passage_loaded (Err fault) done turn ended is = subst (λ f. AnswerOf told old l' form (Err f)) (sym is) tt
-  passage_loaded (Ok loaded) done turn ended is =
-      let says = said done turn in
-      let took = says.2 in
-      let end : is_end says.0 ≡ true = sym took.ended ∙ ended in
-      let same : state_of q ≡ state_of r = took.state ∙ end_adds (l.number + 1) r says.0 end in
-      record {
-        means = subst (MeansShow told old l' form) (ap (final_reading form) (sym same) ∙ sym is.reading)
-            (lines_ended told old l (state_of r) first passage.past l' form turn.0 says.0
-            (subst (λ t. IfSome t.channels_set (λ n. 1 ≤ n)) same is.least) turn.1 says.1 end);
-        valid = is.valid;
-      }
+    -- one more line
+    pub passage_more : TurnOf told l l' r q (Ok tt) → q.ended ≡ false → Passage told old l' q
+    passage_more turn going =
+        let says = said turn in
+        let took = says.2 in
+        record {
+          past = subst (PassedLines told old l') (sym took.state) (lines_more passage.past turn.1 says.1 (sym took.ended ∙ going));
+          going = going;
+        }
 
-  -- a fault ends the reading
-  pub passage_fault : (fault : ShowFault) → TurnOf told l l' r q (Err fault) → AnswerOf told old l' form (Err fault)
-  passage_fault (faults.Text fault) (inl line) = lines_refused told old l (state_of r) first passage.past l' form line.0 fault line.1 line.2
-  passage_fault (faults.Text fault) (inr end) =
-      subst (MeansFault told old form) (sym end.1) (lines_open told old l (state_of r) first passage.past form end.0)
-  passage_fault faults.InputTooLong step = (
-    lines_past_limit told old l (state_of r) first passage.past l' step,
-    lines_cut told old l (state_of r) first passage.past l' (too_long told l l' step),
-  )
-  passage_fault faults.ReadFault not = lines_cut told old l (state_of r) first passage.past l' not
-  passage_fault faults.Memory turn = tt
+    -- the line was ENDDATA
+    pub passage_loaded : (result : Result Loaded ShowFault) → TurnOf told l l' r q (Ok tt) → q.ended ≡ true → IsLoaded form q result
+        → AnswerOf told old l' form result
+    passage_loaded (Err fault) turn ended is = subst (λ f. AnswerOf told old l' form (Err f)) (sym is) tt
+    passage_loaded (Ok loaded) turn ended is =
+        let says = said turn in
+        let took = says.2 in
+        let end : is_end says.0 ≡ true = sym took.ended ∙ ended in
+        let same : state_of q ≡ state_of r = took.state ∙ end_adds (l.number + 1) r says.0 end in
+        record {
+          means = subst (MeansShow told old l' form) (ap (final_reading form) (sym same) ∙ sym is.reading)
+              (lines_ended passage.past turn.1 form (subst (λ t. IfSome t.channels_set (λ n. 1 ≤ n)) same is.least) says.1 end);
+          valid = is.valid;
+        }
+
+    -- a fault ends the reading
+    pub passage_fault : (fault : ShowFault) → TurnOf told l l' r q (Err fault) → AnswerOf told old l' form (Err fault)
+    passage_fault (faults.Text fault) (inl line) = lines_refused passage.past line.1 form line.2
+    passage_fault (faults.Text fault) (inr end) = subst (MeansFault told old form) (sym end.1) (lines_open passage.past form end.0)
+    passage_fault faults.InputTooLong step =
+        (lines_past_limit passage.past l' step, lines_cut passage.past l' (too_long told l l' step))
+    passage_fault faults.ReadFault not = lines_cut passage.past l' not
+    passage_fault faults.Memory turn = tt
 
 -- lack of memory is no failed read
 pub loaded_read : {P : Type 0} (form : Form) (q : Reader) (result : Result Loaded ShowFault) → IsLoaded form q result

@@ -2,6 +2,12 @@
 use Rattle.lx_reader.proofs.Imports.{ℕ, ◌≤◌, List, [], ◌∷◌, map, IsTrue, arith, fold, max, AllByRecursion, CHANNELS, Member, Part, has_entry}
 use Rattle.lx_reader.proofs.Imports.{ValidMember, ValidMove, moves_of}
 
+-- what is made of the entries of a list has what follows from theirs
+pub all_map : {A B : Type 0} {P : A → Type 0} (Q : B → Type 0) {f : A → B} (xs : List A) → ((x : A) → P x → Q (f x)) → AllByRecursion P xs
+    → AllByRecursion Q (map f xs)
+all_map Q [] each all = tt
+all_map Q (x ∷ xs) each all = (each x all.0, all_map Q xs each all.1)
+
 -- the greatest of the channels
 abbrev pub greatest_of : ℕ → List Member → ℕ
 greatest_of n members = fold max n (map (λ m. m.chan) members)
@@ -29,6 +35,5 @@ greatest_each n (m ∷ ms) valid =
 -- the levels as moves in a part of a cue
 pub moves_valid : (channels p : ℕ) (parts : List Part) (members : List Member) → IsTrue (has_entry (λ part. part.number) p parts)
     → AllByRecursion (ValidMember channels) members → AllByRecursion (ValidMove channels parts) (moves_of p members)
-moves_valid channels p parts [] there valid = tt
-moves_valid channels p parts (m ∷ ms) there valid =
-    (record { chan = valid.0.chan; part = there; level = valid.0.level }, moves_valid channels p parts ms there valid.1)
+moves_valid channels p parts members there valid =
+    all_map _ members (λ m h. record { chan = h.chan; part = there; level = h.level }) valid

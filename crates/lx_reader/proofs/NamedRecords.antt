@@ -1,14 +1,14 @@
--- What the section is of was begun, and is there: before a line, and after it.
+-- What the section is of was begun, and is there: before a line, and after it. Of what was not begun nothing was said.
 use Rattle.lx_reader.proofs.Imports.{◌≡◌, ℕ, true, cond, List, [], ◌∷◌, ◌++◌, Option, Some, None, refl, ap, ◌∙◌, sym, subst, IsTrue, filter}
-use Rattle.lx_reader.proofs.Imports.{filter_map, fold, map, is_some, unwrap_or, option_and_then, cons_option, IsSomeAnd, eqb-true, placed, has_entry}
-use Rattle.lx_reader.proofs.Imports.{cue_of, with_cue_named, Section, NoRecord, InCue, InGroup, InSub, Skipping, PlacedEntry, section_begun}
-use Rattle.lx_reader.proofs.Imports.{part_named, cue_in, group_in, sub_in, numbers_begun, stands_in, cue_from, group_from, sub_from, HasPartIn}
-use Rattle.lx_reader.proofs.Imports.{IsOpen, number_begun}
+use Rattle.lx_reader.proofs.Imports.{filter_map, fold, map, is_some, unwrap_or, option_and_then, cons_option, IsSomeAnd, eqb-true, placed}
+use Rattle.lx_reader.proofs.Imports.{has_entry, cue_of, with_cue_named, Section, NoRecord, InCue, InGroup, InSub, Skipping, PlacedEntry}
+use Rattle.lx_reader.proofs.Imports.{section_begun, part_named, cue_in, group_in, sub_in, numbers_begun, stands_in, cue_from, group_from}
+use Rattle.lx_reader.proofs.Imports.{sub_from, HasPartIn, IsOpen, number_begun, Bool, false, append-nil, ◌==◌, false_from_ne_true}
+use Rattle.lx_reader.proofs.Imports.{true≢false}
 use Rattle.lx_reader.proofs.LastEntries.{filter-more}
-use Rattle.lx_reader.proofs.PlacedNumbers.{entry_made, has_made, has-here, has-all_placed, eq-here}
-use Rattle.lx_reader.proofs.MadeEntries.{is_at}
+use Rattle.lx_reader.proofs.PlacedNumbers.{entry_made, has_made, has-here, has-all_placed, eq-here, is_at}
 use Rattle.lx_reader.proofs.Cues.{part_of, parts_named, parts_named-more, HasPart}
-use Rattle.lx_reader.proofs.Shows.{begun-more, made, show_so_far, IsBegunBy, IsBegun}
+use Rattle.lx_reader.proofs.Shows.{begun-more, made, show_so_far, IsBegunBy, IsBegun, IsRootedBy, IsRooted}
 
 -- What was begun is there.
 part_there : (all : List PlacedEntry) (m p : ℕ) → has_entry (λ k. k) m (numbers_begun cue_in all) ≡ true
@@ -22,47 +22,42 @@ part_there all m p begun part =
     (parts_named (filter (stands_in cue_in m) all)) ∙ part)
 
 pub begun_open : (all : List PlacedEntry) (section : Section) (p : ℕ) → IsBegun all section p → IsOpen (show_so_far all) section p
-begun_open all (InCue m) p begun = part_there all m p (begun.cue m (eq-here m)) (begun.part m (eq-here m))
+begun_open all (InCue m) p begun = part_there all m p (begun.by cue_in refl m (eq-here m)) (begun.part m (eq-here m))
 begun_open all (InGroup m) p begun = has_made (λ group. group.number) (made group_in group_from all) (λ k. refl) m
-    (numbers_begun group_in all) ∙ begun.group m (eq-here m)
+    (numbers_begun group_in all) ∙ begun.by group_in refl m (eq-here m)
 begun_open all (InSub m) p begun = has_made (λ sub. sub.number) (made sub_in sub_from all) (λ k. refl) m (numbers_begun sub_in all)
-    ∙ begun.sub m (eq-here m)
+    ∙ begun.by sub_in refl m (eq-here m)
 begun_open all NoRecord p begun = tt
 begun_open all Skipping p begun = tt
 
--- One more line.
-still_begun : (number : Section → Option ℕ) (all : List PlacedEntry) (s : PlacedEntry) (n : ℕ)
-    → has_entry (λ k. k) n (numbers_begun number all) ≡ true → has_entry (λ k. k) n (numbers_begun number (all ++ s ∷ [])) ≡ true
-still_begun number all s n there = ap (has_entry (λ k. k) n) (begun-more number all s)
-    ∙ has-all_placed n (cons_option (number_begun number s.entry) []) (numbers_begun number all) there
+-- One more line: what was named before is there, and what is named now.
+still_named : (k : ℕ) (ns : List ℕ) {all : List ℕ} (o : Option ℕ) → all ≡ fold (λ ys x. placed (λ k. k) x ys) ns (cons_option o [])
+    → has_entry (λ k. k) k ns ≡ true → has_entry (λ k. k) k all ≡ true
+still_named k ns o is there = ap (has_entry (λ k. k) k) is ∙ has-all_placed k (cons_option o []) ns there
 
--- the record whose number the section has is begun now
-now_begun : (number : Section → Option ℕ) (all : List PlacedEntry) (s : PlacedEntry) (o : Option ℕ) (n : ℕ)
-    → number_begun number s.entry ≡ o → is_at n o ≡ true → has_entry (λ k. k) n (numbers_begun number (all ++ s ∷ [])) ≡ true
-now_begun number all s None n begins is = cc
-now_begun number all s (Some m) n begins is =
-    let here : has_entry (λ k. k) m (numbers_begun number (all ++ s ∷ [])) ≡ true =
-    ap (has_entry (λ k. k) m) (begun-more number all s)
-    ∙ ap (λ o. has_entry (λ k. k) m (fold (λ ys x. placed (λ k. k) x ys) (numbers_begun number all) (cons_option o []))) begins
-    ∙ has-here m (numbers_begun number all) in
-    subst (λ k. has_entry (λ j. j) k (numbers_begun number (all ++ s ∷ [])) ≡ true) (eqb-true m n is) here
+now_named : (k : ℕ) (ns : List ℕ) {all : List ℕ} {o : Option ℕ} → all ≡ fold (λ ys x. placed (λ k. k) x ys) ns (cons_option o [])
+    → o ≡ Some k → has_entry (λ k. k) k all ≡ true
+now_named k ns is names =
+    ap (has_entry (λ k. k) k) (is ∙ ap (λ o. fold (λ ys x. placed (λ k. k) x ys) ns (cons_option o [])) names) ∙ has-here k ns
+
+at_is : (n : ℕ) (o : Option ℕ) → is_at n o ≡ true → o ≡ Some n
+at_is n None is = cc
+at_is n (Some m) is = ap Some (eqb-true m n is)
 
 begun_by : (number : Section → Option ℕ) (all : List PlacedEntry) (s : PlacedEntry) (o : Option Section) → section_begun s.entry ≡ o
     → IsBegunBy number all s.section → IsBegunBy number (all ++ s ∷ []) (unwrap_or o s.section)
-begun_by number all s None begins before n is = still_begun number all s n (before n is)
-begun_by number all s (Some section) begins before n is = now_begun number all s (number section) n (ap (option_and_then number) begins) is
+begun_by number all s None begins before n is =
+    still_named n (numbers_begun number all) (number_begun number s.entry) (begun-more number all s) (before n is)
+begun_by number all s (Some section) begins before n is =
+    now_named n (numbers_begun number all) (begun-more number all s) (ap (option_and_then number) begins ∙ at_is n (number section) is)
 
 first_part : (about : List PlacedEntry) → HasPart about 1
 first_part about = has-all_placed 1 (filter_map (λ s. part_named s.entry) about) (1 ∷ []) (has-here 1 [])
 
 part_more : (about : List PlacedEntry) (s : PlacedEntry) (named : Option ℕ) (p : ℕ) → part_named s.entry ≡ named → HasPart about p
     → HasPart (about ++ s ∷ []) (unwrap_or named p)
-part_more about s None p names there =
-    ap (has_entry (λ k. k) p) (parts_named-more about s) ∙ has-all_placed p (cons_option (part_named s.entry) []) (parts_named about) there
-part_more about s (Some q) p names there =
-    ap (has_entry (λ k. k) q) (parts_named-more about s)
-    ∙ ap (λ o. has_entry (λ k. k) q (fold (λ ys x. placed (λ k. k) x ys) (parts_named about) (cons_option o []))) names
-    ∙ has-here q (parts_named about)
+part_more about s None p names there = still_named p (parts_named about) (part_named s.entry) (parts_named-more about s) there
+part_more about s (Some q) p names there = now_named q (parts_named about) (parts_named-more about s) names
 
 -- the cue in whose section the entry stands has the part that is open then
 part_by : (all : List PlacedEntry) (s : PlacedEntry) (p : ℕ) (o : Option Section)
@@ -80,15 +75,13 @@ pub begun_next : (all : List PlacedEntry) (s : PlacedEntry) (p : ℕ) → IsBegu
     → IsBegun (all ++ s ∷ []) (unwrap_or (section_begun s.entry) s.section)
     (cond (is_some (section_begun s.entry)) 1 (unwrap_or (part_named s.entry) p))
 begun_next all s p before = record {
-  cue = begun_by cue_in all s (section_begun s.entry) refl before.cue;
-  group = begun_by group_in all s (section_begun s.entry) refl before.group;
-  sub = begun_by sub_in all s (section_begun s.entry) refl before.sub;
+  by = λ number none. begun_by number all s (section_begun s.entry) refl (before.by number none);
   part = part_by all s p (section_begun s.entry) before.part;
 }
 
 -- outside of all records nothing need be begun
 pub begun_none : (all : List PlacedEntry) (p : ℕ) → IsBegun all NoRecord p
-begun_none all p = record { cue = λ n is. cc; group = λ n is. cc; sub = λ n is. cc; part = λ n is. cc }
+begun_none all p = record { by = λ number none n is. let odd = rw none at is in cc; part = λ n is. cc }
 
 -- the cues that are known
 with_named_is : (o : Option ℕ) (cues : List ℕ) → with_cue_named o cues ≡ fold (λ ys x. placed (λ k. k) x ys) cues (cons_option o [])
@@ -106,3 +99,47 @@ numbers_made all (n ∷ ns) = ap (λ v. n ∷ v) (numbers_made all ns)
 
 pub cue_numbers : (all : List PlacedEntry) → map (λ cue. cue.number) (show_so_far all).cues ≡ numbers_begun cue_in all
 cue_numbers all = numbers_made all (numbers_begun cue_in all)
+
+-- Of what was not begun nothing was said, with one more entry.
+-- what is absent among more numbers was absent among fewer
+absent_before : (n : ℕ) (more ns all : List ℕ) → all ≡ fold (λ ys x. placed (λ k. k) x ys) ns more → has_entry (λ m. m) n all ≡ false
+    → has_entry (λ m. m) n ns ≡ false
+absent_before n more ns all is absent =
+    false_from_ne_true (has_entry (λ m. m) n ns)
+    (λ there. true≢false (sym (has-all_placed n more ns there) ∙ ap (has_entry (λ m. m) n) (sym is) ∙ absent))
+
+rooted_by : (number : Section → Option ℕ) (all : List PlacedEntry) (s : PlacedEntry) → IsRootedBy number all
+    → IsBegunBy number all s.section → IsRootedBy number (all ++ s ∷ [])
+rooted_by number all s rooted begun n absent =
+    let before : has_entry (λ m. m) n (numbers_begun number all) ≡ false =
+    absent_before n (cons_option (number_begun number s.entry) []) (numbers_begun number all) (numbers_begun number (all ++ s ∷ []))
+    (begun-more number all s) absent in
+    let other : stands_in number n s ≡ false = false_from_ne_true (stands_in number n s) (λ is. true≢false (sym (begun n is) ∙ before)) in
+    filter-more (stands_in number n) all s ∙ (λ j. rooted n before j ++ cond (other j) (s ∷ []) [])
+
+none_in_part : (about : List PlacedEntry) (s : PlacedEntry) (q : ℕ) (b : Bool)
+    → (has_entry (λ m. m) q (parts_named about) ≡ false → filter (λ z. z.part == q) about ≡ []) → (b ≡ true → HasPart about s.part)
+    → has_entry (λ m. m) q (parts_named (about ++ cond b (s ∷ []) [])) ≡ false
+    → filter (λ z. z.part == q) (about ++ cond b (s ∷ []) []) ≡ []
+none_in_part about s q false rooted there absent =
+    ap (filter (λ z. z.part == q)) (append-nil about)
+    ∙ rooted (ap (λ v. has_entry (λ m. m) q (parts_named v)) (sym (append-nil about)) ∙ absent)
+none_in_part about s q true rooted there absent =
+    let before : has_entry (λ m. m) q (parts_named about) ≡ false =
+    absent_before q (cons_option (part_named s.entry) []) (parts_named about) (parts_named (about ++ s ∷ [])) (parts_named-more about s)
+    absent in
+    let other : (s.part == q) ≡ false = false_from_ne_true (s.part == q)
+    (λ is. true≢false (sym (there refl) ∙ ap (λ k. has_entry (λ m. m) k (parts_named about)) (eqb-true s.part q is) ∙ before)) in
+    filter-more (λ z. z.part == q) about s ∙ (λ j. rooted before j ++ cond (other j) (s ∷ []) [])
+
+pub rooted-none : IsRooted []
+rooted-none = record { by = λ number none n absent. refl; parts = λ n q absent. refl }
+
+pub rooted-more : (all : List PlacedEntry) (s : PlacedEntry) → IsRooted all → IsBegun all s.section s.part → IsRooted (all ++ s ∷ [])
+rooted-more all s rooted begun = record {
+  by = λ number none. rooted_by number all s (rooted.by number none) (begun.by number none);
+  parts = λ n q absent.
+      ap (filter (λ z. z.part == q)) (filter-more (stands_in cue_in n) all s)
+      ∙ none_in_part (filter (stands_in cue_in n) all) s q (stands_in cue_in n s) (rooted.parts n q) (begun.part n)
+      (ap (λ v. has_entry (λ m. m) q (parts_named v)) (sym (filter-more (stands_in cue_in n) all s)) ∙ absent);
+}

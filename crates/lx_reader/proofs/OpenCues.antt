@@ -1,47 +1,17 @@
 -- A cue that is open: what a line says of it, and that it stays valid.
-use Rattle.lx_reader.proofs.Imports.{◌≡◌, ℕ, ◌≤◌, true, false, cond, List, Option, Some, None, ap, ◌∙◌, sym, subst, IsTrue, arith, IfSome}
-use Rattle.lx_reader.proofs.Imports.{◌==◌, AllByRecursion, option_map_or, PARTS, Member, Move, Part, new_part, Entry, NamesPart, HasUp, HasDown, Follows}
-use Rattle.lx_reader.proofs.Imports.{Links, IsLabelled, Blocks, Asserts, Cue, InRange, MemberSet, Show, ValidCue, ValidMember, ValidMove, ValidPart, ValidSet}
-use Rattle.lx_reader.proofs.Imports.{IsStrictlySorted, all_placed, entry_at, has_entry, placed, each, find_has, All-placed, IsStrictlySorted-placed, has_placed}
-use Rattle.lx_reader.proofs.Imports.{changed, with_settings, All-all_placed, IsStrictlySorted-all_placed, ChangesCue, HasRanges, is_own, cue_with, parts_with}
-use Rattle.lx_reader.proofs.Imports.{with_down, part_with_entry, with_up, members_of, CueFits, SetFits, filled_cue, filled_set}
+use Rattle.lx_reader.proofs.Imports.{◌≡◌, ℕ, ◌≤◌, true, false, cond, List, Some, None, ap, ◌∙◌, sym, subst, IsTrue, arith, IfSome, ◌==◌}
+use Rattle.lx_reader.proofs.Imports.{AllByRecursion, option_map_or, PARTS, Member, Move, Part, new_part, Entry, NamesPart, HasUp, HasDown}
+use Rattle.lx_reader.proofs.Imports.{Follows, Links, IsLabelled, Blocks, Asserts, Cue, InRange, MemberSet, Show, ValidCue, ValidMember}
+use Rattle.lx_reader.proofs.Imports.{ValidMove, ValidPart, ValidSet, all_placed, entry_at, has_entry, placed, each, find_has, has_placed}
+use Rattle.lx_reader.proofs.Imports.{changed, with_other_moves, with_settings, All-all_placed, IsStrictlySorted-all_placed, ChangesCue}
+use Rattle.lx_reader.proofs.Imports.{HasRanges, is_own, cue_with, parts_with, with_down, part_with_entry, with_up, members_of, CueFits, SetFits}
+use Rattle.lx_reader.proofs.Imports.{filled_cue, filled_set}
+use Rattle.lx_show.proofs.ChangedCues.{with_placed_part}
 use Rattle.lx_show.proofs.PlacedEntries.{has_changed}
-
--- A part that is changed.
-all_changed : {A : Type 0} (P : A → Type 0) (key : A → ℕ) (n : ℕ) (f : A → A) (xs : List A) → ((x : A) → P x → P (f x))
-    → AllByRecursion P xs → AllByRecursion P (changed key n f xs)
-all_changed {A} P key n f xs keeps all =
-    elim (entry_at key n xs) as (λ (o : Option A). IfSome o P → AllByRecursion P (option_map_or (λ x. placed key (f x) xs) o xs)) [
-      | None ↦ λ found. all
-      | Some x ↦ λ found. All-placed P key (f x) xs (keeps x found) all
-    ] (find_has P (λ y. key y == n) xs all)
-
-sorted_changed : {A : Type 0} (key : A → ℕ) (n : ℕ) (f : A → A) (xs : List A) → IsStrictlySorted key xs
-    → IsStrictlySorted key (changed key n f xs)
-sorted_changed {A} key n f xs sorted =
-    elim (entry_at key n xs) as (λ (o : Option A). IsStrictlySorted key (option_map_or (λ x. placed key (f x) xs) o xs))
-    [ None ↦ sorted | Some x ↦ IsStrictlySorted-placed key (f x) xs sorted ]
 
 -- a new part takes 5 seconds both ways
 new_part_valid : (p : ℕ) → InRange PARTS p → ValidPart (new_part p)
 new_part_valid p range = record { number = range; up = omega arith; up_delay = omega arith; down = omega arith; down_delay = omega arith }
-
--- a cue whose parts are others, of which none is gone
-with_parts : (channels : ℕ) (cue : Cue) (parts : List Part) → ValidCue channels cue → AllByRecursion ValidPart parts
-    → IsStrictlySorted (λ p. p.number) parts
-    → ((n : ℕ) → IsTrue (has_entry (λ p. p.number) n cue.parts) → IsTrue (has_entry (λ p. p.number) n parts))
-    → ValidCue channels (record cue { parts = parts })
-with_parts channels cue parts valid all sorted kept = record {
-  number = valid.number;
-  follow = valid.follow;
-  link = valid.link;
-  label = valid.label;
-  first_part = kept 1 valid.first_part;
-  parts = all;
-  parts_sorted = sorted;
-  moves = each _ _ cue.moves (λ m h. record { chan = h.chan; part = kept m.part h.part; level = h.level }) valid.moves;
-  moves_sorted = valid.moves_sorted;
-}
 
 -- the parts stay there
 pub parts_kept : (p m : ℕ) (e : Entry) (parts : List Part) → IsTrue (has_entry (λ q. q.number) m parts)
@@ -59,20 +29,17 @@ named_valid : (channels k : ℕ) (cue : Cue) → ValidCue channels cue → InRan
     → ValidCue channels (record cue { parts = part_with_entry k cue.parts })
 named_valid channels k cue valid range =
     elim (has_entry (λ q. q.number) k cue.parts) as
-    (λ b. ValidCue channels (record cue { parts = cond b cue.parts (placed (λ q. q.number) (new_part k) cue.parts) })) [
-      | true ↦ valid
-      | false ↦ with_parts channels cue (placed (λ q. q.number) (new_part k) cue.parts) valid
-          (All-placed ValidPart (λ q. q.number) (new_part k) cue.parts (new_part_valid k range) valid.parts)
-          (IsStrictlySorted-placed (λ q. q.number) (new_part k) cue.parts valid.parts_sorted)
-          (λ n there. has_placed (λ q. q.number) n (new_part k) cue.parts there)
-    ]
+    (λ b. ValidCue channels (record cue { parts = cond b cue.parts (placed (λ q. q.number) (new_part k) cue.parts) }))
+    [ true ↦ valid | false ↦ with_placed_part channels cue (new_part k) valid (new_part_valid k range) ]
 
 timed_valid : (channels p : ℕ) (f : Part → Part) (cue : Cue) → ValidCue channels cue → ((part : Part) → ValidPart part → ValidPart (f part))
     → ValidCue channels (record cue { parts = changed (λ q. q.number) p f cue.parts })
 timed_valid channels p f cue valid keeps =
-    with_parts channels cue (changed (λ q. q.number) p f cue.parts) valid
-    (all_changed ValidPart (λ q. q.number) p f cue.parts keeps valid.parts) (sorted_changed (λ q. q.number) p f cue.parts valid.parts_sorted)
-    (λ n there. has_changed (λ q. q.number) p n f cue.parts there)
+    elim (entry_at (λ q. q.number) p cue.parts) as (λ o. IfSome o ValidPart
+    → ValidCue channels (record cue { parts = option_map_or (λ x. placed (λ q. q.number) (f x) cue.parts) o cue.parts })) [
+      | None ↦ λ found. valid
+      | Some x ↦ λ found. with_placed_part channels cue (f x) valid (keeps x found)
+    ] (find_has ValidPart (λ q. q.number == p) cue.parts valid.parts)
 
 -- what a line says of a cue leaves it valid
 pub own_valid : (channels p : ℕ) (e : Entry) (cue : Cue) → ValidCue channels cue → is_own e ≡ true → HasRanges e
@@ -105,27 +72,19 @@ own_fits show moves old new p q e fits change =
     })
 
 -- the cue with its levels is valid
-pub filled_valid : (show : Show) (moves : List Move) (cue : Cue) → CueFits show moves cue → ValidCue show.channels (filled_cue moves cue)
-filled_valid show moves cue fits = record {
-  number = fits.valid.number;
-  follow = fits.valid.follow;
-  link = fits.valid.link;
-  label = fits.valid.label;
-  first_part = fits.valid.first_part;
-  parts = fits.valid.parts;
-  parts_sorted = fits.valid.parts_sorted;
-  moves = All-all_placed (ValidMove show.channels cue.parts) (λ m. m.chan) moves cue.moves fits.moves_valid fits.valid.moves;
-  moves_sorted = IsStrictlySorted-all_placed (λ m. m.chan) moves cue.moves fits.valid.moves_sorted;
-}
+pub filled_valid : {show : Show} {moves : List Move} {cue : Cue} → CueFits show moves cue → ValidCue show.channels (filled_cue moves cue)
+filled_valid {show} {moves} {cue} fits = with_other_moves show.channels cue _ fits.valid
+    (All-all_placed (ValidMove show.channels cue.parts) (λ m. m.chan) moves cue.moves fits.moves_valid fits.valid.moves)
+    (IsStrictlySorted-all_placed (λ m. m.chan) moves cue.moves fits.valid.moves_sorted)
 
-pub moves_within : (show : Show) (moves : List Move) (cue : Cue) (k : ℕ) → k ≡ show.channels → CueFits show moves cue
+pub moves_within : {show : Show} {moves : List Move} {cue : Cue} {k : ℕ} → k ≡ show.channels → CueFits show moves cue
     → AllByRecursion (λ m. m.chan ≤ k) moves
-moves_within show moves cue k is fits = each _ _ moves (λ m h. omega (arith, is, h.chan.most)) fits.moves_valid
+moves_within {moves = moves} is fits = each _ _ moves (λ m h. omega (arith, is, h.chan.most)) fits.moves_valid
 
 -- the group or submaster with its levels is valid
-pub filled_set_valid : (limit : ℕ) (show : Show) (moves : List Move) (set : MemberSet) → SetFits limit show moves set
+pub filled_set_valid : {limit : ℕ} {show : Show} {moves : List Move} {set : MemberSet} → SetFits limit show moves set
     → ValidSet limit show.channels (filled_set moves set)
-filled_set_valid limit show moves set fits = record {
+filled_set_valid {show = show} {moves = moves} {set = set} fits = record {
   number = fits.valid.number;
   label = fits.valid.label;
   members = record {
@@ -135,10 +94,10 @@ filled_set_valid limit show moves set fits = record {
 }
 
 -- a record of which a field was lent and written
-pub cue_written : (moves new : List Move) (seen cue : Cue) → seen ≡ cue → new ≡ all_placed (λ m. m.chan) moves seen.moves
+pub cue_written : (moves : List Move) {new : List Move} {seen cue : Cue} → seen ≡ cue → new ≡ all_placed (λ m. m.chan) moves seen.moves
     → record seen { moves = new } ≡ filled_cue moves cue
-cue_written moves new seen cue view is = (λ j. record seen { moves = is j }) ∙ ap (filled_cue moves) view
+cue_written moves {seen = seen} view is = (λ j. record seen { moves = is j }) ∙ ap (filled_cue moves) view
 
-pub set_written : (moves : List Move) (new : List Member) (seen set : MemberSet) → seen ≡ set
+pub set_written : (moves : List Move) {new : List Member} {seen set : MemberSet} → seen ≡ set
     → new ≡ all_placed (λ m. m.chan) (members_of moves) seen.members → record seen { members = new } ≡ filled_set moves set
-set_written moves new seen set view is = (λ j. record seen { members = is j }) ∙ ap (filled_set moves) view
+set_written moves {seen = seen} view is = (λ j. record seen { members = is j }) ∙ ap (filled_set moves) view

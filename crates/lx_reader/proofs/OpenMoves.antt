@@ -10,26 +10,18 @@ later : (c : ℕ) (m : Move) (moves : List Move) → AreNumbered c (m ∷ moves)
 later c m moves numbered = λ k within.
     subst (λ n. IfSome (slice_get moves k) (λ x. x.chan ≡ n)) (omega arith) (numbered (suc k) (omega arith))
 
-pub numbered_behind : (c n : ℕ) (moves : List Move) → AreNumbered c moves → AreNumbered (c + n) (drop n moves)
-numbered_behind c zero moves numbered = subst (λ k. AreNumbered k moves) (omega arith) numbered
-numbered_behind c (suc n) [] numbered = λ k within. absurd (omega (arith, within))
-numbered_behind c (suc n) (m ∷ moves) numbered =
-    subst (λ k. AreNumbered k (drop n moves)) (omega arith) (numbered_behind (c + 1) n moves (later c m moves numbered))
-
--- none is of a channel before the first
-from_first : (c : ℕ) (moves : List Move) (flags : List Bool) → AreNumbered c moves → AllByRecursion (λ m. c ≤ m.chan) (moves_there moves flags)
-from_first c [] flags numbered = tt
-from_first c (m ∷ moves) [] numbered = tt
-from_first c (m ∷ moves) (false ∷ flags) numbered =
-    each _ _ (moves_there moves flags) (λ x h. omega arith) (from_first (c + 1) moves flags (later c m moves numbered))
-from_first c (m ∷ moves) (true ∷ flags) numbered = (
-  omega (arith, numbered 0 (omega arith)),
-  each _ _ (moves_there moves flags) (λ x h. omega arith) (from_first (c + 1) moves flags (later c m moves numbered)),
-)
+-- none is of a channel before this one, where none of the row is
+from_first : (b c : ℕ) (moves : List Move) (flags : List Bool) → b ≤ c → AreNumbered c moves
+    → AllByRecursion (λ m. b ≤ m.chan) (moves_there moves flags)
+from_first b c [] flags least numbered = tt
+from_first b c (m ∷ moves) [] least numbered = tt
+from_first b c (m ∷ moves) (false ∷ flags) least numbered = from_first b (c + 1) moves flags (omega arith) (later c m moves numbered)
+from_first b c (m ∷ moves) (true ∷ flags) least numbered =
+    (omega (arith, numbered 0 (omega arith)), from_first b (c + 1) moves flags (omega arith) (later c m moves numbered))
 
 pub behind : (c : ℕ) (moves : List Move) (flags : List Bool) → AreNumbered (c + 1) moves
     → AllByRecursion (λ m. c < m.chan) (moves_there moves flags)
-behind c moves flags numbered = each _ _ (moves_there moves flags) (λ m h. omega arith) (from_first (c + 1) moves flags numbered)
+behind c moves flags numbered = from_first (suc c) (c + 1) moves flags (omega arith) numbered
 
 pub moves_rise : (c : ℕ) (moves : List Move) (flags : List Bool) → AreNumbered c moves
     → IsStrictlySorted (λ m. m.chan) (moves_there moves flags)
@@ -81,7 +73,7 @@ pub all_there : (c n : ℕ) (moves : List Move) (flags : List Bool) → AreNumbe
     → ((k : ℕ) → k < length (take n flags) → IfSome (slice_get (take n flags) k) (λ there. there ≡ true))
     → AllByRecursion (λ m. m.chan < c + n) (moves_there moves flags) → take n moves ≡ moves_there moves flags
 all_there c zero moves flags numbered few long each_is within =
-    none_left c (c + 0) (moves_there moves flags) (omega arith) within (from_first c moves flags numbered)
+    none_left c (c + 0) (moves_there moves flags) (omega arith) within (from_first c c moves flags (omega arith) numbered)
 all_there c (suc n) [] flags numbered few long each_is within = absurd (omega (arith, few))
 all_there c (suc n) (m ∷ moves) [] numbered few long each_is within = absurd (omega (arith, long))
 all_there c (suc n) (m ∷ moves) (false ∷ flags) numbered few long each_is within = absurd (false≢true (each_is 0 (omega arith)))

@@ -15,16 +15,17 @@ onto_if : {A : Type 0} (i : ℕ) (xs : List A) (b : Bool) (r : Result (List A) T
 onto_if i xs true r = refl
 onto_if i xs false r = refl
 
-pairs_first : (i : ℕ) (c l : List ℕ) (rest : List (List ℕ)) (m : Member) → read_whole 1 CHANNELS c ≡ Ok m.chan → read_level l ≡ Ok m.level
-    → pairs desk_limits i (c ∷ l ∷ rest) ≡ onto (m ∷ []) (pairs desk_limits i rest)
-pairs_first i c l rest m chan level = rw (chan, level) (onto_one m (pairs desk_limits i rest))
+-- a list whose length is a multiple, with one more entry
+list_first : {A : Type 0} (i : ℕ) (x : A) {k n : ℕ} (all rest : Result (List A) TextFault) → k ≡ n → all ≡ onto (x ∷ []) rest
+    → cond (k == 0) all (Err (ShortList i)) ≡ onto (x ∷ []) (cond (n == 0) rest (Err (ShortList i)))
+list_first i x {n = n} all rest same first =
+    (λ j. cond (same j == 0) (first j) (Err (ShortList i))) ∙ onto_if i (x ∷ []) (n == 0) rest
 
 pub all_pairs-first : (i : ℕ) (c l : List ℕ) (rest : List (List ℕ)) (m : Member) → read_whole 1 CHANNELS c ≡ Ok m.chan
     → read_level l ≡ Ok m.level → all_pairs i (c ∷ l ∷ rest) ≡ onto (m ∷ []) (all_pairs i rest)
-all_pairs-first i c l rest m chan level =
-    ap (λ k. cond (k == 0) (pairs desk_limits i (c ∷ l ∷ rest)) (Err (ShortList i))) (two_more (length rest))
-    ∙ ap (λ r. cond (length rest % 2 == 0) r (Err (ShortList i))) (pairs_first i c l rest m chan level)
-    ∙ onto_if i (m ∷ []) (length rest % 2 == 0) (pairs desk_limits i rest)
+all_pairs-first i c l rest m chan level = list_first i m (pairs desk_limits i (c ∷ l ∷ rest)) (pairs desk_limits i rest)
+    (two_more (length rest))
+    (rw (chan, level) (onto_one m (pairs desk_limits i rest)))
 
 -- the same, as the short ways tell it
 pub member_first : (i : ℕ) (all others : List (List ℕ)) (m : Member) → FirstIsMember all m others
@@ -32,18 +33,12 @@ pub member_first : (i : ℕ) (all others : List (List ℕ)) (m : Member) → Fir
 member_first i all others m is =
     ap (all_pairs i) is.first ∙ all_pairs-first i is.chan_token is.level_token others m is.chan is.level
 
-triples_first : (i : ℕ) (c e l : List ℕ) (rest : List (List ℕ)) (row : PatchRow) → read_whole 1 CHANNELS c ≡ Ok row.chan
-    → read_whole 1 DIMMERS e ≡ Ok row.dimmer → read_level l ≡ Ok row.level
-    → triples desk_limits i (c ∷ e ∷ l ∷ rest) ≡ onto (row ∷ []) (triples desk_limits i rest)
-triples_first i c e l rest row chan dimmer level = rw (chan, dimmer, level) (onto_one row (triples desk_limits i rest))
-
 pub all_triples-first : (i : ℕ) (c e l : List ℕ) (rest : List (List ℕ)) (row : PatchRow) → read_whole 1 CHANNELS c ≡ Ok row.chan
     → read_whole 1 DIMMERS e ≡ Ok row.dimmer → read_level l ≡ Ok row.level
     → all_triples i (c ∷ e ∷ l ∷ rest) ≡ onto (row ∷ []) (all_triples i rest)
 all_triples-first i c e l rest row chan dimmer level =
-    ap (λ k. cond (k == 0) (triples desk_limits i (c ∷ e ∷ l ∷ rest)) (Err (ShortList i))) (three_more (length rest))
-    ∙ ap (λ r. cond (length rest % 3 == 0) r (Err (ShortList i))) (triples_first i c e l rest row chan dimmer level)
-    ∙ onto_if i (row ∷ []) (length rest % 3 == 0) (triples desk_limits i rest)
+    list_first i row (triples desk_limits i (c ∷ e ∷ l ∷ rest)) (triples desk_limits i rest) (three_more (length rest))
+    (rw (chan, dimmer, level) (onto_one row (triples desk_limits i rest)))
 
 -- the same, as the short ways tell it
 pub row_first : (i : ℕ) (all others : List (List ℕ)) (row : PatchRow) → FirstIsRow all row others

@@ -1,9 +1,11 @@
 -- A sorted list placed over another one: of each number its entry counts, where it has one.
-use Rattle.lx_reader.proofs.Imports.{◌≡◌, ℕ, ◌<◌, Bool, List, [], ◌∷◌, ◌++◌, Option, Some, None, refl, ap, ◌∙◌, sym, inl, inr, arith, filter, fold}
-use Rattle.lx_reader.proofs.Imports.{length, nat_lt, AllByRecursion, cases_eq, map-append, Member, Move, IsStrictlySorted, all_placed, entry_at}
-use Rattle.lx_reader.proofs.Imports.{placed, each, IsStrictlySorted-placed, entry_at-placed_here, entry_at-placed_other, IsStrictlySorted-all_placed}
-use Rattle.lx_reader.proofs.Imports.{members_of, later, moves_of, cases_Bool}
+use Rattle.lx_reader.proofs.Imports.{◌≡◌, ℕ, List, [], ◌∷◌, Option, Some, None, refl, ap, ◌∙◌, sym, inl, inr, arith, fold, cases_eq, Member}
+use Rattle.lx_reader.proofs.Imports.{Move, IsStrictlySorted, all_placed, entry_at, placed, each, IsStrictlySorted-placed, entry_at-placed_here}
+use Rattle.lx_reader.proofs.Imports.{entry_at-placed_other, IsStrictlySorted-all_placed, members_of, later, moves_of}
+use Rattle.std.proofs.lemmas.List.Folds.{fold-map}
 use Rattle.lx_show.proofs.SameLists.{first_here, first_other, none_low, same_lists}
+use Rattle.lx_reader.proofs.Members.{all_map}
+use Rattle.lx_reader.proofs.PlacedNumbers.{map-placed}
 
 entry_over : {A : Type 0} (key : A → ℕ) (n : ℕ) (over xs : List A) → IsStrictlySorted key over
     → entry_at key n (all_placed key over xs) ≡ later (entry_at key n over) (entry_at key n xs)
@@ -45,46 +47,23 @@ or_none : {A : Type 0} (o : Option A) → later o None ≡ o
 or_none None = refl
 or_none (Some x) = refl
 
--- over nothing it is as it is
-pub placed_alone : {A : Type 0} (key : A → ℕ) (over : List A) → IsStrictlySorted key over → all_placed key over [] ≡ over
-placed_alone key over rises = same_lists key (all_placed key over []) over (IsStrictlySorted-all_placed key over [] tt) rises
-    (λ n. entry_over key n over [] rises ∙ or_none (entry_at key n over))
-
 -- The levels of moves.
-members_filter : (test : ℕ → Bool) (moves : List Move)
-    → members_of (filter (λ m. test m.chan) moves) ≡ filter (λ m. test m.chan) (members_of moves)
-members_filter test [] = refl
-members_filter test (m ∷ moves) =
-    elim (cases_Bool (test m.chan)) [
-      | inl is ↦ rw is (ap (λ ms. record { chan = m.chan; level = m.level } ∷ ms) (members_filter test moves))
-      | inr is ↦ rw is (members_filter test moves)
-    ]
-
-members_placed : (m : Move) (moves : List Move)
-    → members_of (placed (λ x. x.chan) m moves) ≡ placed (λ x. x.chan) (record { chan = m.chan; level = m.level }) (members_of moves)
-members_placed m moves =
-    let one : Member = record { chan = m.chan; level = m.level } in
-    map-append (λ (x : Move). record { chan = x.chan; level = x.level }) (filter (λ x. nat_lt x.chan m.chan) moves)
-    (m ∷ filter (λ x. nat_lt m.chan x.chan) moves)
-    ∙ (λ j. members_filter (λ n. nat_lt n m.chan) moves j ++ one ∷ members_filter (λ n. nat_lt m.chan n) moves j)
+abbrev member_of : Move → Member
+member_of m = record { chan = m.chan; level = m.level }
 
 pub members_all_placed : (more moves : List Move)
     → members_of (all_placed (λ m. m.chan) more moves) ≡ all_placed (λ m. m.chan) (members_of more) (members_of moves)
 members_all_placed [] moves = refl
 members_all_placed (m ∷ more) moves = members_all_placed more (placed (λ x. x.chan) m moves)
-    ∙ ap (all_placed (λ x. x.chan) (members_of more)) (members_placed m moves)
+    ∙ ap (all_placed (λ x. x.chan) (members_of more)) (map-placed (λ x. x.chan) (λ x. x.chan) member_of (λ x. refl) m moves)
 
 pub members_of_moves : (p : ℕ) (members : List Member) → members_of (moves_of p members) ≡ members
 members_of_moves p [] = refl
 members_of_moves p (m ∷ members) = ap (λ ms. m ∷ ms) (members_of_moves p members)
 
-members_above : (c : ℕ) (moves : List Move) → AllByRecursion (λ m. c < m.chan) moves → AllByRecursion (λ m. c < m.chan) (members_of moves)
-members_above c [] above = tt
-members_above c (m ∷ moves) above = (above.0, members_above c moves above.1)
-
 pub members_rise : (moves : List Move) → IsStrictlySorted (λ m. m.chan) moves → IsStrictlySorted (λ m. m.chan) (members_of moves)
 members_rise [] rises = tt
-members_rise (m ∷ moves) rises = (members_above m.chan moves rises.0, members_rise moves rises.1)
+members_rise (m ∷ moves) rises = (all_map _ moves (λ x h. h) rises.0, members_rise moves rises.1)
 
 -- the level of a move placed, and those of several
 abbrev pub level_placed : List Member → Move → List Member
@@ -95,14 +74,11 @@ levels_placed members moves = fold level_placed members moves
 
 pub levels_are_placed : (members : List Member) (moves : List Move)
     → levels_placed members moves ≡ all_placed (λ x. x.chan) (members_of moves) members
-levels_are_placed members [] = refl
-levels_are_placed members (m ∷ moves) = levels_are_placed (level_placed members m) moves
+levels_are_placed members moves = sym (fold-map (λ ms (m : Member). placed (λ x. x.chan) m ms) member_of members moves)
 
-pub placed_alone_at : {A : Type 0} (key : A → ℕ) (over list old : List A) → IsStrictlySorted key over → list ≡ over
-    → old ≡ [] → list ≡ all_placed key over old
-placed_alone_at key over list old rises is none =
-    is ∙ sym (placed_alone key over rises) ∙ ap (all_placed key over) (sym none)
-
-pub no_entries : {A : Type 0} (xs : List A) → length xs ≡ 0 → xs ≡ []
-no_entries [] none = refl
-no_entries (x ∷ xs) none = cc
+-- over nothing it is as it is
+pub placed_alone : {A : Type 0} (key : A → ℕ) (over list old : List A) → IsStrictlySorted key over → list ≡ over → old ≡ []
+    → list ≡ all_placed key over old
+placed_alone key over list old rises is none =
+    is ∙ sym (same_lists key (all_placed key over []) over (IsStrictlySorted-all_placed key over [] tt) rises
+    (λ n. entry_over key n over [] rises ∙ or_none (entry_at key n over))) ∙ ap (all_placed key over) (sym none)

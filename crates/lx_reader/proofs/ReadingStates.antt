@@ -1,16 +1,14 @@
 -- The states of a reading: each comes to the last of its entries for each thing.
-use Rattle.lx_reader.proofs.Imports.{◌≡◌, ℕ, ◌+◌, ◌-◌, ◌≤◌, Bool, true, false, cond, List, [], ◌∷◌, ◌++◌, map, length, drop, Option, Some, None, refl}
-use Rattle.lx_reader.proofs.Imports.{ap, ◌∙◌, sym, subst, arith, ◌&&◌, ◌==◌, is_some, not, max, fold, flat_map, unwrap_or, count_by, position, IfSome}
-use Rattle.lx_reader.proofs.Imports.{option_map_or, after_last, suffix_len, prefix_len, reverse-append, drop-append-le, drop_all, length-append}
-use Rattle.lx_reader.proofs.Imports.{fold-append, count_by-le-length, DEFAULT_CHANNELS, Form, Show, by_form, NoRecord, Entry, ClearsAll, PlacedEntry}
-use Rattle.lx_reader.proofs.Imports.{channels_set, clears_all, is_skipped, section_begun, part_named, cue_in, facts_after, with_cue_named}
-use Rattle.lx_reader.proofs.Imports.{reading_from, numbers_begun, channels_named, last_in, IsOpen, ReadingState, later, first_state, state_after}
-use Rattle.lx_reader.proofs.Imports.{placed_in, facts_in, final_reading, show_with, number_begun, inl, inr, suc, eq_above, cases_Bool}
-use Rattle.lx_reader.proofs.Imports.{position_from-zero, position_from, and_right}
+use Rattle.lx_reader.proofs.Imports.{◌≡◌, ℕ, ◌+◌, ◌-◌, ◌≤◌, Bool, true, false, cond, List, [], ◌∷◌, ◌++◌, map, length, drop, Option, Some, None}
+use Rattle.lx_reader.proofs.Imports.{refl, ap, ◌∙◌, sym, subst, arith, ◌&&◌, ◌==◌, not, max, fold, flat_map, unwrap_or, count_by, position}
+use Rattle.lx_reader.proofs.Imports.{IfSome, option_map_or, after_last, suffix_len, prefix_len, reverse-append, drop-append-le, drop_all}
+use Rattle.lx_reader.proofs.Imports.{length-append, fold-append, count_by-le-length, DEFAULT_CHANNELS, Form, Show, by_form, NoRecord, Entry}
+use Rattle.lx_reader.proofs.Imports.{ClearsAll, PlacedEntry, channels_set, clears_all, is_skipped, section_begun, facts_after, reading_from}
+use Rattle.lx_reader.proofs.Imports.{channels_named, last_in, IsOpen, ReadingState, later, first_state, state_after, placed_in, facts_in}
+use Rattle.lx_reader.proofs.Imports.{final_reading, show_with, inl, inr, suc, eq_above, cases_Bool, position_from-zero, position_from, and_right}
 use Rattle.lx_reader.proofs.LastEntries.{last_in-more}
 use Rattle.lx_reader.proofs.Shows.{show_so_far, show-more, greatest-from, IsRooted, IsBegun}
-use Rattle.lx_reader.proofs.EntryRoots.{rooted-none, rooted-more}
-use Rattle.lx_reader.proofs.NamedRecords.{begun_open, begun_next, begun_none, cues_next, cue_numbers}
+use Rattle.lx_reader.proofs.NamedRecords.{begun_open, begun_next, begun_none, cues_next, cue_numbers, rooted-none, rooted-more}
 
 -- what was said since the last CLEAR ALL
 abbrev pub since_cleared : List PlacedEntry → List PlacedEntry
@@ -23,12 +21,9 @@ suffix_push test xs x = ap (prefix_len test) (reverse-append xs (x ∷ []))
 
 after_push : {A : Type 0} (test : A → Bool) (xs : List A) (x : A) (b : Bool) → test x ≡ b
     → after_last test (xs ++ x ∷ []) ≡ cond b [] (after_last test xs ++ x ∷ [])
-after_push test xs x true is =
-    let none : suffix_len (λ z. not (test z)) (xs ++ x ∷ []) ≡ 0 = suffix_push (λ z. not (test z)) xs x ∙ rw is refl in
-    drop_all (length (xs ++ x ∷ []) - suffix_len (λ z. not (test z)) (xs ++ x ∷ [])) (xs ++ x ∷ []) (omega (arith, none))
+after_push test xs x true is = drop_all _ (xs ++ x ∷ []) (omega (arith, rw is at (suffix_push (λ z. not (test z)) xs x)))
 after_push test xs x false is =
-    let one : suffix_len (λ z. not (test z)) (xs ++ x ∷ []) ≡ 1 + suffix_len (λ z. not (test z)) xs = suffix_push (λ z. not (test z)) xs x
-    ∙ rw is refl in
+    let one = rw is at (suffix_push (λ z. not (test z)) xs x) in
     let place : length (xs ++ x ∷ []) - suffix_len (λ z. not (test z)) (xs ++ x ∷ []) ≡ length xs - suffix_len (λ z. not (test z)) xs =
     omega (arith, one, length-append xs (x ∷ [])) in
     ap (λ n. drop n (xs ++ x ∷ [])) place ∙ drop-append-le (length xs - suffix_len (λ z. not (test z)) xs) xs (x ∷ []) (omega arith)
@@ -91,93 +86,81 @@ state_none = record {
       refl;
 }
 
--- what the section is of is there
-pub state_open : (all : List PlacedEntry) (t : ReadingState) → IsStateOf all t → IsOpen t.show t.section t.part
-state_open all t state = subst (λ z. IsOpen z t.section t.part) (sym state.show)
-    (begun_open (since_cleared all) t.section t.part state.begun)
-
--- the cues that are known are those of the show
-pub state_cues : (all : List PlacedEntry) (t : ReadingState) → IsStateOf all t
-    → map (λ cue. cue.number) t.show.cues ≡ numbers_begun cue_in (since_cleared all)
-state_cues all t state = ap (λ z. map (λ cue. cue.number) z.cues) state.show ∙ cue_numbers (since_cleared all)
-
--- One more entry.
-record Cleared (all : List PlacedEntry) (t next : ReadingState) : Type 0 where
+-- One more entry: where it clears all nothing is left, and else it is one more of those since.
+record Cleared (all : List PlacedEntry) (next : ReadingState) (known : List ℕ) : Type 0 where
   rooted : IsRooted (since_cleared all)
   begun : IsBegun (since_cleared all) next.section next.part
   show : next.show ≡ show_so_far (since_cleared all)
   channels_set : next.channels_set ≡ last_in channels_set (since_cleared all)
+  cues : known ≡ map (λ cue. cue.number) next.show.cues
 
 clear_begins : (e : Entry) → clears_all e ≡ true → section_begun e ≡ Some NoRecord
 clear_begins e = elim e as (λ e. clears_all e ≡ true → section_begun e ≡ Some NoRecord) [ ClearsAll ↦ λ is. refl | _ ↦ λ is. cc ]
-
-cleared_by : (all : List PlacedEntry) (t : ReadingState) (e : Entry) (i : ℕ) (b : Bool) → clears_all e ≡ b → IsStateOf all t
-    → Cleared (all ++ placed_in t e ∷ []) t (state_after i e t)
-cleared_by all t e i true clears state =
-    let none : since_cleared (all ++ placed_in t e ∷ []) ≡ [] = after_push (λ z. clears_all z.entry) all (placed_in t e) true clears in
-    let begins : section_begun e ≡ Some NoRecord = clear_begins e clears in
-    record {
-      rooted = subst IsRooted (sym none) rooted-none;
-      begun = subst (λ o. IsBegun (since_cleared (all ++ placed_in t e ∷ [])) (unwrap_or o t.section)
-          (cond (is_some o) 1 (unwrap_or (part_named e) t.part))) (sym begins) (begun_none (since_cleared (all ++ placed_in t e ∷ [])) 1);
-      show = ap (λ b. cond b first_state.show (show_with (placed_in t e) t.show)) clears ∙ sym (ap show_so_far none);
-      channels_set = ap (λ b. cond b None (later (channels_set e) t.channels_set)) clears ∙ sym (ap (last_in channels_set) none);
-    }
-cleared_by all t e i false clears state =
-    let s : PlacedEntry = placed_in t e in
-    let about : List PlacedEntry = since_cleared all in
-    let more : since_cleared (all ++ s ∷ []) ≡ about ++ s ∷ [] = after_push (λ z. clears_all z.entry) all s false clears in
-    record {
-      rooted = subst IsRooted (sym more) (rooted-more about s state.rooted state.begun);
-      begun = subst (λ v. IsBegun v (unwrap_or (section_begun e) t.section)
-          (cond (is_some (section_begun e)) 1 (unwrap_or (part_named e) t.part))) (sym more) (begun_next about s t.part state.begun);
-      show = ap (λ b. cond b first_state.show (show_with s t.show)) clears ∙ ap (show_with s) state.show
-          ∙ sym (show-more about s state.rooted state.begun) ∙ sym (ap show_so_far more);
-      channels_set = ap (λ b. cond b None (later (channels_set e) t.channels_set)) clears ∙ ap (later (channels_set e)) state.channels_set
-          ∙ sym (last_in-more channels_set about s) ∙ sym (ap (last_in channels_set) more);
-    }
 
 skipped_by : (n : ℕ) (b : Bool) → cond b (n + 1) n ≡ n + one_if b
 skipped_by n true = refl
 skipped_by n false = omega arith
 
-pub state_more : (all : List PlacedEntry) (t : ReadingState) (e : Entry) → IsStateOf all t
-    → IsStateOf (all ++ placed_in t e ∷ []) (state_after (length all + 1) e t)
-state_more all t e state =
-    let each = cleared_by all t e (length all + 1) (clears_all e) refl state in
-    record {
-      rooted = each.rooted;
-      begun = each.begun;
-      show = each.show;
-      channels_set = each.channels_set;
-      skipped = skipped_by t.skipped (is_skipped e) ∙ ap (λ n. n + one_if (is_skipped e)) state.skipped
-          ∙ sym (count_push (λ z. is_skipped z.entry) all (placed_in t e));
-      first_skipped =
-          (λ i. cond (is_skipped e && state.skipped i == 0) (length all + 1) (state.first_skipped i))
-          ∙ sym (first_push (λ z. is_skipped z.entry) all (placed_in t e));
-    }
+module _ {all : List PlacedEntry} {t : ReadingState} (i : ℕ) (e : Entry) (state : IsStateOf all t) where
+  abbrev s : PlacedEntry
+  s = placed_in t e
 
--- the facts of the state after it are those after the entry
-cues_after : (all : List PlacedEntry) (t : ReadingState) (e : Entry) (b : Bool) → clears_all e ≡ b → IsStateOf all t
-    → map (λ cue. cue.number) (state_after (length all + 1) e t).show.cues
-    ≡ cond b [] (with_cue_named (number_begun cue_in e) (map (λ cue. cue.number) t.show.cues))
-cues_after all t e true clears state = ap (λ b. map (λ cue. cue.number) (cond b first_state.show (show_with (placed_in t e) t.show)).cues)
-    clears
-cues_after all t e false clears state =
-    let s : PlacedEntry = placed_in t e in
-    let more : since_cleared (all ++ s ∷ []) ≡ since_cleared all ++ s ∷ [] = after_push (λ z. clears_all z.entry) all s false clears in
-    state_cues (all ++ s ∷ []) (state_after (length all + 1) e t) (state_more all t e state)
-    ∙ ap (numbers_begun cue_in) more
-    ∙ sym (cues_next (since_cleared all) s (map (λ cue. cue.number) t.show.cues) (state_cues all t state))
+  abbrev about : List PlacedEntry
+  about = since_cleared all
 
-pub state_facts : (all : List PlacedEntry) (t : ReadingState) (e : Entry) → IsStateOf all t
-    → facts_after (facts_in t (length all + 1)) e ≡ facts_in (state_after (length all + 1) e t) (length all + 1 + 1)
-state_facts all t e state =
-    let cues = cues_after all t e (clears_all e) refl state in
-    λ j. record (facts_after (facts_in t (length all + 1)) e) { cues = sym cues j }
+  cleared_by : (b : Bool) → clears_all e ≡ b → Cleared (all ++ s ∷ []) (state_after i e t) (facts_after (facts_in t i) e).cues
+  cleared_by true clears =
+      let none : since_cleared (all ++ s ∷ []) ≡ [] = after_push (λ z. clears_all z.entry) all s true clears in
+      record {
+        rooted = subst IsRooted (sym none) rooted-none;
+        begun = rw (clear_begins e clears) (begun_none _ 1);
+        show = rw clears (sym (ap show_so_far none));
+        channels_set = rw clears (sym (ap (last_in channels_set) none));
+        cues = rw clears refl;
+      }
+  cleared_by false clears =
+      let more : since_cleared (all ++ s ∷ []) ≡ about ++ s ∷ [] = after_push (λ z. clears_all z.entry) all s false clears in
+      let shows : show_with s t.show ≡ show_so_far (about ++ s ∷ []) = ap (show_with s) state.show
+      ∙ sym (show-more about s state.rooted state.begun) in
+      record {
+        rooted = subst IsRooted (sym more) (rooted-more about s state.rooted state.begun);
+        begun = rw more (begun_next about s t.part state.begun);
+        show = rw clears (shows ∙ sym (ap show_so_far more));
+        channels_set = rw clears (ap (later (channels_set e)) state.channels_set
+            ∙ sym (last_in-more channels_set about s) ∙ sym (ap (last_in channels_set) more));
+        cues = rw clears (cues_next about s (map (λ cue. cue.number) t.show.cues)
+            (ap (λ z. map (λ cue. cue.number) z.cues) state.show ∙ cue_numbers about)
+            ∙ sym (ap (λ z. map (λ cue. cue.number) z.cues) shows ∙ cue_numbers (about ++ s ∷ [])));
+      }
 
-pub skipped_few : (all : List PlacedEntry) (t : ReadingState) → IsStateOf all t → t.skipped ≤ length all
-skipped_few all t state = omega (arith, state.skipped, count_by-le-length (λ s. is_skipped s.entry) all)
+  pub state_more : i ≡ length all + 1 → IsStateOf (all ++ placed_in t e ∷ []) (state_after i e t)
+  state_more number =
+      let each = cleared_by (clears_all e) refl in
+      record {
+        rooted = each.rooted;
+        begun = each.begun;
+        show = each.show;
+        channels_set = each.channels_set;
+        skipped = skipped_by t.skipped (is_skipped e) ∙ ap (λ n. n + one_if (is_skipped e)) state.skipped
+            ∙ sym (count_push (λ z. is_skipped z.entry) all s);
+        first_skipped =
+            (λ j. cond (is_skipped e && state.skipped j == 0) (number j) (state.first_skipped j))
+            ∙ sym (first_push (λ z. is_skipped z.entry) all s);
+      }
+
+  -- the facts of the state after it are those after the entry
+  pub state_facts : facts_after (facts_in t i) e ≡ facts_in (state_after i e t) (i + 1)
+  state_facts =
+      let cues = (cleared_by (clears_all e) refl).cues in
+      λ j. record (facts_after (facts_in t i) e) { cues = cues j }
+
+-- what the section is of is there
+pub state_open : {all : List PlacedEntry} {t : ReadingState} → IsStateOf all t → IsOpen t.show t.section t.part
+state_open {all} {t} state =
+    subst (λ z. IsOpen z t.section t.part) (sym state.show) (begun_open (since_cleared all) t.section t.part state.begun)
+
+pub skipped_few : {all : List PlacedEntry} {t : ReadingState} → IsStateOf all t → t.skipped ≤ length all
+skipped_few {all} state = omega (arith, state.skipped, count_by-le-length (λ s. is_skipped s.entry) all)
 
 -- The channel count is the greatest channel that was named, and at least what SET CHANNELS says.
 set_or_default : (o : Option ℕ) → IfSome o (λ n. 1 ≤ n) → 1 ≤ unwrap_or o DEFAULT_CHANNELS
@@ -188,9 +171,9 @@ counted : (named : List ℕ) (n : ℕ) → 1 ≤ n → max (fold max 1 named) n 
 counted named n least =
     let same : max n 1 ≡ n = omega arith in omega (arith, greatest-from n 1 named, ap (λ k. fold max k named) same)
 
-pub state_reading : (form : Form) (all : List PlacedEntry) (t : ReadingState) → IsStateOf all t → IfSome t.channels_set (λ n. 1 ≤ n)
+pub state_reading : (form : Form) {all : List PlacedEntry} {t : ReadingState} → IsStateOf all t → IfSome t.channels_set (λ n. 1 ≤ n)
     → reading_from form all ≡ final_reading form t
-state_reading form all t state least =
+state_reading form {all} {t} state least =
     let named : List ℕ = flat_map (λ s. channels_named s.entry) (since_cleared all) in
     let channels : max t.show.channels (unwrap_or t.channels_set DEFAULT_CHANNELS)
     ≡ fold max (unwrap_or (last_in channels_set (since_cleared all)) DEFAULT_CHANNELS) named
@@ -200,6 +183,5 @@ state_reading form all t state least =
     λ i. let z : Show = sym state.show i in record {
       show = by_form form (record z { channels = sym channels i });
       skipped = sym state.skipped i;
-      first_skipped =
-          sym state.first_skipped i;
+      first_skipped = sym state.first_skipped i;
     }

@@ -1,17 +1,9 @@
 -- Entries that are put into a show one after another.
-use Rattle.lx_reader.proofs.Imports.{◌≡◌, ℕ, List, [], ◌∷◌, ◌++◌, map, refl, ap, ◌∙◌, sym, append_assoc, Result, Ok, Err, fold, max, map-append}
-use Rattle.lx_reader.proofs.Imports.{fold-append, PatchRow, placed, all_placed, Show, with_rows, all_triples, onto, ◌>>=◌}
+use Rattle.lx_reader.proofs.Imports.{◌≡◌, ℕ, List, [], ◌∷◌, ◌++◌, refl, ap, ◌∙◌, sym, append_assoc, Result, Ok, Err, map-append, fold-append}
+use Rattle.lx_reader.proofs.Imports.{PatchRow, Show, with_rows, all_triples, onto, ◌>>=◌}
 
 pub rows-again : (xs ys : List PatchRow) (show : Show) → with_rows ys (with_rows xs show) ≡ with_rows (xs ++ ys) show
-rows-again xs ys show =
-    let channels : fold max (fold max show.channels (map (λ row. row.chan) xs)) (map (λ row. row.chan) ys)
-    ≡ fold max show.channels (map (λ row. row.chan) (xs ++ ys))
-    = sym (fold-append max show.channels (map (λ row. row.chan) xs) (map (λ row. row.chan) ys))
-    ∙ ap (fold max show.channels) (sym (map-append (λ row. row.chan) xs ys)) in
-    let patch : all_placed (λ row. row.dimmer) ys (all_placed (λ row. row.dimmer) xs show.patch)
-    ≡ all_placed (λ row. row.dimmer) (xs ++ ys) show.patch
-    = sym (fold-append (λ zs x. placed (λ row. row.dimmer) x zs) show.patch xs ys) in
-    λ i. record show { channels = channels i; patch = patch i }
+rows-again xs ys show = simp (map-append, fold-append)
 
 pub onto_nothing : {A E : Type 0} (r : Result (List A) E) → r ≡ onto [] r
 onto_nothing (Ok xs) = refl

@@ -1,15 +1,13 @@
 -- The show of the entries, with one more.
-use Rattle.lx_reader.proofs.Imports.{◌≡◌, ℕ, Bool, true, false, cond, List, [], ◌∷◌, ◌++◌, map, Option, Some, None, refl, ap, ◌∙◌, append-nil, arith}
-use Rattle.lx_reader.proofs.Imports.{◌==◌, filter, fold, flat_map, filter_map, option_and_then, max, IfSome, cons_option, Show, placed, has_entry}
-use Rattle.lx_reader.proofs.Imports.{Section, NoRecord, Entry, Skipped, Identifies, Begins, ClearsAll, HasChannels, Patches, PlacedEntry, part_named}
-use Rattle.lx_reader.proofs.Imports.{cue_in, group_in, sub_in, rows_in, numbers_begun, stands_in, each_record, cue_from, group_from, sub_from}
-use Rattle.lx_reader.proofs.Imports.{channels_named, show_from, new_cue, with_named, changed_in, cue_with, set_with, change_by, number_begun, speaks}
-use Rattle.lx_reader.proofs.Imports.{new_set, show_with, part_from, cond_both}
+use Rattle.lx_reader.proofs.Imports.{◌≡◌, ℕ, Bool, true, false, cond, List, [], ◌∷◌, ◌++◌, map, Option, Some, None, refl, ap, ◌∙◌, append-nil}
+use Rattle.lx_reader.proofs.Imports.{arith, filter, fold, flat_map, filter_map, option_and_then, max, IfSome, cons_option, Show, placed}
+use Rattle.lx_reader.proofs.Imports.{has_entry, Section, NoRecord, Entry, Skipped, Identifies, Begins, ClearsAll, HasChannels, Patches}
+use Rattle.lx_reader.proofs.Imports.{PlacedEntry, cue_in, group_in, sub_in, rows_in, numbers_begun, stands_in, each_record, cue_from, group_from}
+use Rattle.lx_reader.proofs.Imports.{channels_named, show_from, new_cue, with_named, changed_in, cue_with, set_with, change_by, number_begun}
+use Rattle.lx_reader.proofs.Imports.{speaks, new_set, show_with, cond_both}
 use Rattle.lx_reader.proofs.LastEntries.{filter-more, fold_flat-more, fold_picked-more}
-use Rattle.lx_reader.proofs.PlacedNumbers.{IsStrictlySorted-numbers}
-use Rattle.lx_reader.proofs.MadeEntries.{is_at, after_change, listed-more}
-use Rattle.lx_reader.proofs.Cues.{parts_named, HasPart, IsFresh, cue_from-with}
-use Rattle.lx_reader.proofs.Groups.{set_from-with}
+use Rattle.lx_reader.proofs.PlacedNumbers.{IsStrictlySorted-numbers, is_at, after_change, listed-more}
+use Rattle.lx_reader.proofs.Cues.{HasPart, ArePartsRooted, cue_from-with, set_from-with}
 
 -- the numbers that entries begin, with one entry more
 pub begun-more : (number : Section → Option ℕ) (all : List PlacedEntry) (s : PlacedEntry)
@@ -22,20 +20,15 @@ abbrev pub IsRootedBy : (Section → Option ℕ) → List PlacedEntry → Type 0
 IsRootedBy number all = (n : ℕ) → has_entry (λ m. m) n (numbers_begun number all) ≡ false → filter (stands_in number n) all ≡ []
 
 pub record IsRooted (all : List PlacedEntry) : Type 0 where
-  pub cues : IsRootedBy cue_in all
-  pub groups : IsRootedBy group_in all
-  pub subs : IsRootedBy sub_in all
-  pub parts : (n q : ℕ) → has_entry (λ m. m) q (parts_named (filter (stands_in cue_in n) all)) ≡ false
-      → filter (λ s. s.part == q) (filter (stands_in cue_in n) all) ≡ []
+  pub by : (number : Section → Option ℕ) → number NoRecord ≡ None → IsRootedBy number all
+  pub parts : (n : ℕ) → ArePartsRooted (filter (stands_in cue_in n) all)
 
 -- what the section and the part are of was begun
 abbrev pub IsBegunBy : (Section → Option ℕ) → List PlacedEntry → Section → Type 0
 IsBegunBy number all section = (n : ℕ) → is_at n (number section) ≡ true → has_entry (λ m. m) n (numbers_begun number all) ≡ true
 
 pub record IsBegun (all : List PlacedEntry) (section : Section) (p : ℕ) : Type 0 where
-  pub cue : IsBegunBy cue_in all section
-  pub group : IsBegunBy group_in all section
-  pub sub : IsBegunBy sub_in all section
+  pub by : (number : Section → Option ℕ) → number NoRecord ≡ None → IsBegunBy number all section
   pub part : (n : ℕ) → is_at n (cue_in section) ≡ true → HasPart (filter (stands_in cue_in n) all) p
 
 some_so : {A : Type 0} (o : Option A) (P : Type 0) → P → IfSome o (λ x. P)
@@ -80,17 +73,12 @@ each_record-more {A} key new number from with_it all s keys numbered fresh more 
     (λ n absent. ap (λ v. from v n) (rooted n absent) ∙ fresh n)
     (λ n. ap (λ v. from v n) (filter-more (stands_in number n) all s) ∙ more n (stands_in number n s) refl)
 
-fresh_part : (about : List PlacedEntry) (o : Option ℕ)
-    → ((q : ℕ) → has_entry (λ m. m) q (parts_named about) ≡ false → filter (λ s. s.part == q) about ≡ []) → IsFresh about o
-fresh_part about None rooted = tt
-fresh_part about (Some q) rooted = λ absent. ap (λ v. part_from v q) (rooted q absent)
-
 cue_some : (about : List PlacedEntry) (s : PlacedEntry) (n : ℕ) (b : Bool) → (b ≡ true → HasPart about s.part)
-    → IsFresh about (part_named s.entry)
+    → ArePartsRooted about
     → cue_from (about ++ cond b (s ∷ []) []) n
     ≡ cond b (after_change (change_by (cue_with s.part) s.entry) (cue_from about n)) (cue_from about n)
-cue_some about s n true part fresh = cue_from-with about s.section s.part s.entry n (part refl) fresh
-cue_some about s n false part fresh = ap (λ v. cue_from v n) (append-nil about)
+cue_some about s n true part rooted = cue_from-with about s.section s.part s.entry n (part refl) rooted
+cue_some about s n false part rooted = ap (λ v. cue_from v n) (append-nil about)
 
 set_some : (about : List PlacedEntry) (s : PlacedEntry) (g : ℕ) (b : Bool)
     → group_from (about ++ cond b (s ∷ []) []) g
@@ -108,15 +96,14 @@ show-more all s rooted begun =
     let in_cue = λ (n : ℕ). filter (stands_in cue_in n) all in
     let cues = each_record-more (λ cue. cue.number) new_cue cue_in cue_from (cue_with s.part) all s (λ x. refl) (λ about n. refl)
     (λ n. refl)
-    (λ n b is. cue_some (in_cue n) s n b (λ t. begun.part n (is ∙ t)) (fresh_part (in_cue n) (part_named s.entry) (rooted.parts n)))
-    rooted.cues begun.cue in
-    let groups = each_record-more (λ group. group.number) new_set group_in group_from set_with all s (λ x. refl) (λ about n. refl)
-    (λ n. refl) (λ n b is. set_some (filter (stands_in group_in n) all) s n b) rooted.groups begun.group in
-    let subs = each_record-more (λ sub. sub.number) new_set sub_in sub_from set_with all s (λ x. refl) (λ about n. refl) (λ n. refl)
-    (λ n b is. set_some (filter (stands_in sub_in n) all) s n b) rooted.subs begun.sub in
+    (λ n b is. cue_some (in_cue n) s n b (λ t. begun.part n (is ∙ t)) (rooted.parts n))
+    (rooted.by cue_in refl) (begun.by cue_in refl) in
+    let sets = λ (number : Section → Option ℕ) (none : number NoRecord ≡ None).
+    each_record-more (λ set. set.number) new_set number group_from set_with all s (λ x. refl) (λ about n. refl) (λ n. refl)
+    (λ n b is. set_some (filter (stands_in number n) all) s n b) (rooted.by number none) (begun.by number none) in
     let channels = fold_flat-more max 1 (λ z. channels_named z.entry) all s in
     let patch = fold_flat-more (λ ys x. placed (λ row. row.dimmer) x ys) [] (λ z. rows_in z.entry) all s in
-    λ i. record { channels = channels i; cues = cues i; groups = groups i; subs = subs i; patch = patch i }
+    λ i. record { channels = channels i; cues = cues i; groups = sets group_in refl i; subs = sets sub_in refl i; patch = patch i }
 
 -- the greatest of a number and others
 pub greatest-from : (a b : ℕ) (xs : List ℕ) → fold max (max a b) xs ≡ max a (fold max b xs)

@@ -3,7 +3,6 @@
 ghost use Rattle.std.specs.Prelude.{◌≡◌, ◌∷◌, Ok, ◌+◌, ◌≤◌, min, IfSome, MatchOption};
 ghost use Rattle.lx_base.specs.declared.TheConstants.{CHANNELS};
 ghost use Rattle.lx_base.specs.Numbers.{percent as percent_level};
-ghost use Rattle.lx_spec.specs.Numerals.{read_level};
 ghost use Rattle.lx_lex.specs.Left.{left};
 ghost use Rattle.lx_lex.specs.PlainNumber.{FirstIsLevel, FirstIsNumber};
 ghost use Rattle.lx_reader.specs.FieldLists.{FirstIsMember, FirstIsRow, IsNext, TakesSome, fault_in, all_pairs, all_triples};
@@ -88,6 +87,7 @@ fn near_level(tokens: &mut Tokens) -> Option<Level>
 
 /// The next channel and level of a list of pairs, where the tokens stand in another way; none at its end. A fault is that of the whole list.
 #[inline(never)]
+#[tactic(auto, using(crate::proofs::Pairs::member_first))]
 pub(crate) fn far_member(i: u32, tokens: &mut Tokens) -> Result<Option<Member>, TextFault>
     ensures fewer { TakesSome (left tokens.old) (left tokens.new) result }
     ensures list { IsNext (all_pairs i) (left tokens.old) (left tokens.new) result }
@@ -148,21 +148,12 @@ fn other_level(tokens: &mut Tokens) -> Option<Level>
     if let Some(level) = tokens.take_hex() {
         return Some(level);
     }
-    level_of(tokens.next()?)
-}
-
-/// The level that a token is, in whatever form.
-fn level_of(token: &[u8]) -> Option<Level>
-    ensures { IfSome result (λ level. read_level token.now ≡ Ok level) }
-{
-    match read_level(token) {
-        Ok(level) => Some(level),
-        Err(_) => None,
-    }
+    read_level(tokens.next()?).ok()
 }
 
 /// The level of this many percent; none above 100.
 #[inline(always)]
+#[tactic(auto, using(crate::proofs::PercentLevels::percent_at))]
 fn plain_level(percent: u32) -> Option<Level>
     ensures { IfSome result (λ level. (percent ≤ 100) × (level ≡ percent_level percent)) }
 {
@@ -196,6 +187,7 @@ fn any_member(i: u32, tokens: &mut Tokens) -> Result<Option<Member>, TextFault>
 
 /// The next channel, dimmer and level of a list of triples; none at its end. A fault is that of the whole list.
 #[inline(always)]
+#[tactic(auto, using(crate::proofs::Pairs::row_first))]
 pub(crate) fn next_row(i: u32, tokens: &mut Tokens) -> Result<Option<PatchRow>, TextFault>
     ensures fewer { TakesSome (left tokens.old) (left tokens.new) result }
     ensures list { IsNext (all_triples i) (left tokens.old) (left tokens.new) result }
@@ -226,6 +218,7 @@ fn near_row(tokens: &mut Tokens) -> Option<PatchRow>
 
 /// The same as `next_row`, where the tokens stand in another way.
 #[inline(never)]
+#[tactic(auto, using(crate::proofs::Pairs::row_first))]
 fn far_row(i: u32, tokens: &mut Tokens) -> Result<Option<PatchRow>, TextFault>
     ensures fewer { TakesSome (left tokens.old) (left tokens.new) result }
     ensures list { IsNext (all_triples i) (left tokens.old) (left tokens.new) result }

@@ -192,16 +192,6 @@ impl MoveRow {
         }
     }
 
-    /// Writes the moves at the front of a list, and says how many they are.
-    fn gather(&self, list: &mut [Move]) -> usize
-        requires room { CHANNELS ≤ length list.old }
-        ensures long { length list.new ≡ length list.old }
-        ensures most { result ≤ CHANNELS }
-        ensures list { take result list.new ≡ self.now }
-    {
-        gather_blocks(&self.moves[..], &self.there[..], list)
-    }
-
     /// Places one level as a move, and answers the greater of its channel and this number.
     #[inline(always)]
     fn put(&mut self, member: Member, part: PartNo, least: u32) -> u32
@@ -312,7 +302,7 @@ fn gather<H: Heap>(heap: &mut H, row: &MoveRow, list: &mut Vec<Move>) -> Result<
         heap.reserve(list, SLOTS - list.len())?;
         lengthen(list);
     }
-    Ok(row.gather(list))
+    Ok(gather_blocks(&row.moves[..], &row.there[..], list))
 }
 
 /// Makes the list as long as there are channels. There is room for that.

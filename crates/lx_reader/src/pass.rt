@@ -104,25 +104,13 @@ fn loaded_by<H: Heap>(heap: &mut H, reading: ShowPass, form: Form) -> Result<Loa
     ensures cause { HasCauseOf ShowFault.Memory (H.refusals heap.old) (H.refusals heap.new) result }
 {
     let mut reading = reading;
-    match reading.settle(heap) {
-        Ok(()) => loaded_in_form(heap, reading.reader, form),
-        Err(_) => Err(ShowFault::Memory),
-    }
-}
-
-/// The same, once the moves of the last cue were put into it.
-fn loaded_in_form<H: Heap>(heap: &mut H, reader: Reader, form: Form) -> Result<Loaded, ShowFault>
-    ensures loaded { IsLoaded form reader result }
-    ensures cause { HasCauseOf ShowFault.Memory (H.refusals heap.old) (H.refusals heap.new) result }
-{
-    let mut loaded = loaded(reader);
+    reading.settle(heap)?;
+    let mut loaded = loaded(reading.reader);
     match form {
-        Form::Moves => Ok(loaded),
-        Form::States => match looks_to_moves(heap, &mut loaded.show) {
-            Ok(()) => Ok(loaded),
-            Err(_) => Err(ShowFault::Memory),
-        },
+        Form::Moves => {}
+        Form::States => looks_to_moves(heap, &mut loaded.show)?,
     }
+    Ok(loaded)
 }
 
 /// What was read: the show has as many channels as it names, and as SET CHANNELS says, or else 512.
@@ -138,6 +126,8 @@ fn loaded(reader: Reader) -> Loaded
     };
     let channels = show.channels().max(set);
     show.widen(channels);
+    // For its proof alone: the show is valid.
+    let _ = show.channels();
     Loaded {
         show,
         skipped: reader.skipped,

@@ -1,15 +1,14 @@
 //! A pass over the lines of a show text. The record that is open is kept apart from the show, and its levels apart from it, by channel, until
 //! the next record begins.
 
-ghost use Rattle.std.specs.Prelude.{◌≡◌, ◌≢◌, ◌≤◌, ◌∷◌, ◌&&◌, None, Err, [], false, true, codes, length, OnOk, IfSome};
+ghost use Rattle.std.specs.Prelude.{◌≡◌, ◌≤◌, ◌∷◌, ◌&&◌, None, [], false, true, codes, length, OnOk, IfSome};
 ghost use Rattle.lx_io.specs.Causes.{HasCause, HasCauseOf};
 ghost use Rattle.lx_base.specs.declared.TheConstants.{LINE_BYTES};
-ghost use Rattle.lx_spec.specs.declared.Section.TheVariants.{NoRecord};
 ghost use Rattle.lx_spec.specs.declared.Word.TheVariants as words;
 ghost use Rattle.lx_spec.specs.FirstWord.{is_inner};
 ghost use Rattle.lx_spec.specs.Limits.{desk_limits};
 ghost use Rattle.lx_spec.specs.Fields.{levels};
-ghost use Rattle.lx_spec.specs.LineRules.{entry_by_word, entry_of, inner_entry, is_makers_line, stray_entry};
+ghost use Rattle.lx_spec.specs.LineRules.{entry_by_word, entry_of, inner_entry, is_makers_line};
 ghost use Rattle.lx_spec.specs.Text.{tokens};
 ghost use Rattle.lx_lex.specs.Left.{left};
 ghost use Rattle.lx_reader.specs.declared.open_record.Open.TheVariants as open_records;
@@ -152,25 +151,14 @@ impl ShowPass {
                 self.reader.skip(i);
                 Ok(())
             }
-            Word::EndData => self.end_line(i),
+            Word::EndData if self.reader.identified => {
+                self.reader.ended = true;
+                Ok(())
+            }
+            Word::EndData => Err(ShowFault::Text(TextFault::NoIdent(i))),
             _ if is_inner(word) => self.inner_line(heap, i, line, word, tokens),
             _ => self.outer_line(heap, i, word, tokens),
         }
-    }
-
-    /// `ENDDATA`
-    fn end_line(&mut self, i: u32) -> Result<(), ShowFault>
-        requires { IsReady self.old i }
-        ensures outcome { Outcome (settled self.old) (settled self.new) i result
-            (entry_by_word (facts_of (settled self.old) i) [] words.EndData []) }
-        ensures fits { OnOk result (PassFits self.new) }
-        ensures memory { result ≢ Err ShowFault.Memory }
-    {
-        if !self.reader.identified {
-            return Err(ShowFault::Text(TextFault::NoIdent(i)));
-        }
-        self.reader.ended = true;
-        Ok(())
     }
 
     /// A line that ends a record, and maybe begins one. The open one is put into the show before.
@@ -331,29 +319,18 @@ impl ShowPass {
             return Err(ShowFault::Text(TextFault::NoIdent(i)));
         }
         match self.reader.section {
-            Section::NoRecord => self.stray_line(i, word),
+            Section::NoRecord => match word {
+                Word::Text => {
+                    self.reader.skip(i);
+                    Ok(())
+                }
+                _ => Err(ShowFault::Text(TextFault::NotInRecord(i))),
+            },
             Section::Skipping => {
                 self.reader.skip(i);
                 Ok(())
             }
             _ => self.line_of_record(heap, i, line, word, tokens),
-        }
-    }
-
-    /// Such a line outside of any record.
-    fn stray_line(&mut self, i: u32, word: Word) -> Result<(), ShowFault>
-        requires pass { IsReady self.old i }
-        requires outside { self.old.reader.section ≡ NoRecord }
-        ensures outcome { Outcome (settled self.old) (settled self.new) i result (stray_entry (facts_of (settled self.old) i) word) }
-        ensures fits { OnOk result (PassFits self.new) }
-        ensures memory { result ≢ Err ShowFault.Memory }
-    {
-        match word {
-            Word::Text => {
-                self.reader.skip(i);
-                Ok(())
-            }
-            _ => Err(ShowFault::Text(TextFault::NotInRecord(i))),
         }
     }
 

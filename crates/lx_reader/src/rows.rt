@@ -1,6 +1,6 @@
 //! The rows of a line are put into the patch.
 
-ghost use Rattle.std.specs.Prelude.{◌≡◌, ◌≢◌, ◌≤◌, Err, ◌∷◌, [], max, OnOk, IfErr};
+ghost use Rattle.std.specs.Prelude.{◌≡◌, ◌≢◌, Err, ◌∷◌, [], OnOk, IfErr};
 ghost use Rattle.std.specs.Result.{IsOkAnd};
 ghost use Rattle.lx_lex.specs.Left.{left};
 ghost use Rattle.lx_reader.specs.FieldLists.{all_triples};
@@ -9,25 +9,16 @@ ghost use Rattle.lx_reader.specs.ReadingState.{with_rows};
 
 use crate::fault::ShowFault;
 use crate::lists::next_row;
-use lx_base::Chan;
 use lx_lex::Tokens;
 use lx_show::Show;
 use lx_spec::PatchRow;
-
-/// The show has the channel.
-fn widen(show: &mut Show, chan: Chan)
-    ensures show { show.new ≡ record show.old { channels = max show.old.channels chan } }
-    ensures chan { chan ≤ show.new.channels }
-{
-    let channels = show.channels().max(chan.get());
-    show.widen(channels);
-}
 
 /// Puts a row into the patch.
 fn put_patch_row(show: &mut Show, row: PatchRow)
     ensures { show.new ≡ with_rows (row ∷ []) show.old }
 {
-    widen(show, row.chan);
+    let channels = show.channels().max(row.chan.get());
+    show.widen(channels);
     show.put_patch(row);
 }
 

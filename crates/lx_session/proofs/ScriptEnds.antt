@@ -32,24 +32,31 @@ take_raws raws rest = ap (λ n. take n (map without_cr raws ++ rest)) (sym (leng
     ∙ take-append_seam (map without_cr raws) rest
 
 -- the bytes that were taken are those of the lines
-handed_all : (a c : Option (List ℕ)) (i k : ℕ) (raws : List (List ℕ)) → LinesBetween a c i k raws
+handed_all : {a c : Option (List ℕ)} {i k : ℕ} {raws : List (List ℕ)} → LinesBetween a c i k raws
     → IfSome a (λ xs. IfSome c (λ zs. xs ≡ first_lines (length raws) xs ++ zs))
-handed_all None c i k raws p = tt
-handed_all (Some x) None i k raws p = absurd p.took
-handed_all (Some x) (Some z) i k raws p = p.took ∙ ap (λ v. v ++ z) p.front
+handed_all {a = None} p = tt
+handed_all {a = Some x} {c = None} p = absurd p.took
+handed_all {a = Some x} {c = Some z} p = p.took ∙ ap (λ v. v ++ z) p.front
 
-handed_still : (a b c : Option (List ℕ)) (i j : ℕ) (raws : List (List ℕ)) → LinesBetween a b i j raws
+handed_still : {a b : Option (List ℕ)} {i j : ℕ} {raws : List (List ℕ)} (c : Option (List ℕ)) → LinesBetween a b i j raws
     → IfSome b (λ xs. IfSome c (λ ys. xs ≡ ys)) → IfSome a (λ xs. IfSome c (λ zs. xs ≡ first_lines (length raws) xs ++ zs))
-handed_still None b c i j raws p same = tt
-handed_still (Some x) None c i j raws p same = absurd p.took
-handed_still (Some x) (Some y) None i j raws p same = tt
-handed_still (Some x) (Some y) (Some z) i j raws p same = p.took ∙ ap (λ v. v ++ y) p.front
+handed_still {a = None} c p same = tt
+handed_still {a = Some x} {b = None} c p same = absurd p.took
+handed_still {a = Some x} {b = Some y} None p same = tt
+handed_still {a = Some x} {b = Some y} {raws = raws} (Some z) p same = p.took ∙ ap (λ v. v ++ y) p.front
     ∙ ap (λ v. first_lines (length raws) x ++ v) same
 
 -- a front of a text was appended, where the text begins so
-front_made : (a b : Option (List ℕ)) (front rest text : List ℕ) → text ≡ front ++ rest → Appends a b front → AppendsFront a b text
-front_made a b front rest text is p = AppendsFront-from a b text (length front)
+pub front_of : (a b : Option (List ℕ)) (front rest text : List ℕ) → text ≡ front ++ rest → Appends a b front → AppendsFront a b text
+front_of a b front rest text is p = AppendsFront-from a b text (length front)
     (subst (λ (v : List ℕ). Appends a b v) (sym (ap (take (length front)) is ∙ take-append_seam front rest)) p)
+
+-- a front of a text is one of a longer text
+pub front_more : (a b : Option (List ℕ)) (text more whole : List ℕ) → whole ≡ text ++ more → AppendsFront a b text → AppendsFront a b whole
+front_more a b text more whole is p =
+    let part = AppendsFront-is a b text p in
+    front_of a b (take part.0 text) (drop part.0 text ++ more) whole
+    (is ∙ ap (λ v. v ++ more) (sym (take-append-drop part.0 text)) ∙ append_assoc (take part.0 text) (drop part.0 text) more) part.1
 
 -- the text of all lines but the last, where other lines stand behind them
 but_last : (by : Answering (List ℕ)) (state : by.State) (raws rest : List (List ℕ)) (failures : List (Option ℕ)) (h h' : Known)
@@ -103,7 +110,7 @@ module _ {by : Answering (List ℕ)} {state : by.State} {lines : List (List ℕ)
         allows = allows_all (lines_of xs) rest is;
         lines = n;
         handed = handed;
-        text = front_made h h' written more (session_after by state (lines_of xs) failures n).text (ap (λ s. s.text) same ∙ text) appended;
+        text = front_of h h' written more (session_after by state (lines_of xs) failures n).text (ap (λ s. s.text) same ∙ text) appended;
         earlier = subst (λ ls. AppendsAtLeast h h' (after_each by failures (begin_at state) (take (n - 1) ls)).text) (sym is) earlier;
         stands = subst (λ (s : Session by.State). Stands s.state) (sym same) stands;
       }
@@ -124,8 +131,7 @@ module _ {S : Type 0} {by : Answering (List ℕ)} {Stood : by.State → Type 0} 
             over (unread told a) (λ xs. lines_of xs ≡ lines) _ (all_texts (unread told a) (unread told b) a.taken b.taken s.raws s.handed.took end)
             (λ xs is. answers_all s.done (ap (before_first ends_script) is ∙ before_all lines s.done.go_on) appended e.same.stands e.counts)
         | inr q ↦
-            over (unread told a) _ _ (begins_more (unread told a) (unread told c) a.taken c.taken s.raws q.raw
-            (handed_then told a b c s.raws (q.raw ∷ []) s.handed q.handed).took)
+            over (unread told a) _ _ (begins_more s.raws q.raw (handed_then told a b c s.raws (q.raw ∷ []) s.handed q.handed).took)
             (λ xs is. answers_all s.done
             (ap (before_first ends_script) is.1 ∙ before_quit lines (without_cr q.raw) is.0 s.done.go_on q.quits) appended e.same.stands e.counts)
       ]
@@ -136,8 +142,8 @@ module _ {S : Type 0} {by : Answering (List ℕ)} {Stood : by.State → Type 0} 
   stops u same =
       let appended = Appends-kept h h' h'' s.now.text s.appended u.kept in
       let first = s.done.earlier in
-      with_both (unread told a) _ _ _ (begins (unread told a) (unread told b) a.taken b.taken s.raws s.handed.took)
-      (handed_still (unread told a) (unread told b) (unread told c) a.taken b.taken s.raws s.handed.took same) (λ xs is handed.
+      with_both (unread told a) _ _ _ (begins s.handed.took)
+      (handed_still (unread told c) s.handed.took same) (λ xs is handed.
       let rest = before_first ends_script is.0 in
       answers_front s.done rest (length s.raws) s.now.text []
       (ap (before_first ends_script) is.1 ∙ before_end lines is.0 s.done.go_on) (take_raws s.raws rest)
@@ -154,8 +160,8 @@ module _ {S : Type 0} {by : Answering (List ℕ)} {Stood : by.State → Type 0} 
       let most : length (lines ++ []) ≤ n - 1 =
       omega (arith, length-append s.raws (q.raw ∷ []), length-map s.raws without_cr, ap length (append-nil lines)) in
       let all = ap (λ ls. after_each by s.failures (begin_at state) ls) (take_all (n - 1) (lines ++ []) most ∙ append-nil lines) ∙ s.done.is in
-      with_both (unread told a) _ _ _ (begins_more (unread told a) (unread told c) a.taken c.taken s.raws q.raw both.took)
-      (handed_all (unread told a) (unread told c) a.taken c.taken (s.raws ++ q.raw ∷ []) both.took) (λ xs is handed.
+      with_both (unread told a) _ _ _ (begins_more s.raws q.raw both.took)
+      (handed_all both.took) (λ xs is handed.
       answers_front s.done [] n s.now.text []
       (ap (before_first ends_script) is.1 ∙ before_quit lines (without_cr q.raw) is.0 s.done.go_on q.quits ∙ sym (append-nil lines))
       (take_all n (lines ++ []) (omega (arith, most)) ∙ append-nil lines) handed (sym (append-nil s.now.text)) appended
@@ -179,8 +185,8 @@ module _ {S : Type 0} {by : Answering (List ℕ)} {Stood : by.State → Type 0} 
       let before : after_each by failures (begin_at state) (take (length (map without_cr raws) - 1) (map without_cr raws)) ≡ s.now =
       ap (λ ls. after_each by failures (begin_at state) (take (length ls - 1) ls)) lines_are ∙ before_last (without_cr t.raw) w.failed s.done in
       let appended = Appends-trans h h' h'' s.now.text front s.appended part.1 in
-      with_both (unread told a) _ _ _ (begins (unread told a) (unread told c) a.taken c.taken raws both.took)
-      (handed_all (unread told a) (unread told c) a.taken c.taken raws both.took) (λ xs is handed.
+      with_both (unread told a) _ _ _ (begins both.took)
+      (handed_all both.took) (λ xs is handed.
       let others = before_first ends_script is.0 in
       answers_front done others (length raws) (s.now.text ++ front) rest
       (ap (before_first ends_script) is.1 ∙ before_end (map without_cr raws) is.0 done.go_on) (take_raws raws others) handed
@@ -203,7 +209,7 @@ module _ {S : Type 0} {by : Answering (List ℕ)} {Stood : by.State → Type 0} 
   so_far_unread : Untouched Stands h' h'' s.now → NotTaken told b c
       → IfSome (unread told a) (λ bytes. AnsweredTaken by Stands state a.taken bytes (told.left c.source.now) h h'')
   so_far_unread u n =
-      with_both (unread told a) _ _ _ (begins (unread told a) (unread told b) a.taken b.taken s.raws s.handed.took)
+      with_both (unread told a) _ _ _ (begins s.handed.took)
       (cut_off told a b c s.raws s.handed.took n) (λ xs is cut.
       let rest = before_first ends_script is.0 in
       let before : answered_lines (lines_of xs) ≡ lines ++ rest = ap answered_lines is.1 ∙ before_end lines is.0 s.done.go_on in
@@ -258,19 +264,15 @@ pub front_of_whole : (by : Answering (List ℕ)) → IsLawful by → (state : by
     (n : ℕ) (h h' : Known) → AppendsFront h h' (session_after by state script failures n).text
     → AppendsFront h h' (whole_session by state script failures).text
 front_of_whole by lawful state script failures n h h' p =
-    let text = (session_after by state script failures n).text in
     let more = more_of_whole by lawful state script failures n in
-    let part = AppendsFront-is h h' text p in
-    front_made h h' (take part.0 text) (drop part.0 text ++ more.0) (whole_session by state script failures).text
-    (more.1 ∙ ap (λ v. v ++ more.0) (sym (take-append-drop part.0 text)) ∙ append_assoc (take part.0 text) (drop part.0 text) more.0)
-    part.1
+    front_more h h' (session_after by state script failures n).text more.0 (whole_session by state script failures).text more.1 p
 
 pub first_of_whole : (by : Answering (List ℕ)) → IsLawful by → (state : by.State) (script : List (List ℕ)) (failures : List (Option ℕ))
     (n : ℕ) (h h' : Known) → Appends h h' (session_after by state script failures n).text
     → AppendsFront h h' (whole_session by state script failures).text
 first_of_whole by lawful state script failures n h h' p =
     let more = more_of_whole by lawful state script failures n in
-    front_made h h' (session_after by state script failures n).text more.0 (whole_session by state script failures).text more.1 p
+    front_of h h' (session_after by state script failures n).text more.0 (whole_session by state script failures).text more.1 p
 
 -- What answers stands for a state in another sense, too.
 module _ (by : Answering (List ℕ)) (Stands Stands' : by.State → Type 0) (also : (s : by.State) → Stands s → Stands' s) (state : by.State) where

@@ -145,17 +145,17 @@ with_both None P Q R p q f = tt
 with_both (Some xs) P Q R p q f = f xs p q
 
 -- the lines of all known bytes begin with those that were handed out
-pub begins : (a b : Option (List ℕ)) (i j : ℕ) (raws : List (List ℕ)) → LinesBetween a b i j raws
+pub begins : {a b : Option (List ℕ)} {i j : ℕ} {raws : List (List ℕ)} → LinesBetween a b i j raws
     → IfSome a (λ xs. (rest : List (List ℕ)) × (lines_of xs ≡ map without_cr raws ++ rest))
-begins None b i j raws p = tt
-begins (Some x) None i j raws p = absurd p.took
-begins (Some x) (Some y) i j raws p = (lines_of y, texts (Some x) (Some y) i j raws p)
+begins {a = None} p = tt
+begins {a = Some x} {b = None} p = absurd p.took
+begins {a = Some x} {b = Some y} {i = i} {j = j} {raws = raws} p = (lines_of y, texts (Some x) (Some y) i j raws p)
 
 -- and with one more that was handed out after them
-pub begins_more : (a b : Option (List ℕ)) (i j : ℕ) (raws : List (List ℕ)) (raw : List ℕ) → LinesBetween a b i j (raws ++ raw ∷ [])
+pub begins_more : {a b : Option (List ℕ)} {i j : ℕ} (raws : List (List ℕ)) (raw : List ℕ) → LinesBetween a b i j (raws ++ raw ∷ [])
     → IfSome a (λ xs. (rest : List (List ℕ)) × (lines_of xs ≡ map without_cr raws ++ without_cr raw ∷ rest))
-begins_more a b i j raws raw p =
-    over a _ _ (begins a b i j (raws ++ raw ∷ []) p)
+begins_more {a} raws raw p =
+    over a _ _ (begins p)
     (λ xs e. (
       e.0,
       e.1 ∙ ap (λ v. v ++ e.0) (map-append without_cr raws (raw ∷ []))
@@ -184,7 +184,7 @@ fits_by_quit told a b c s q =
     let line = without_cr q.raw in
     let both = handed_then told a b c s.raws (q.raw ∷ []) s.handed q.handed in
     let n = length (s.raws ++ q.raw ∷ []) in
-    with_both (unread told a) _ _ _ (begins_more (unread told a) (unread told c) a.taken c.taken s.raws q.raw both.took)
+    with_both (unread told a) _ _ _ (begins_more s.raws q.raw both.took)
     (lines_within (unread told a) (unread told c) a.taken c.taken (s.raws ++ q.raw ∷ []) n both.took (omega arith)) (λ xs e le.
     let wanted : lines_wanted (lines_of xs) ≡ n =
     ap (λ ls. position_or_len ends_script ls + 1) e.1
@@ -210,7 +210,7 @@ pub too_long : {S : Type 0} (told : ToldBySource S) (a b c : Lines S) → Passed
     → IfSome (unread told a) (λ bytes. INPUT_BYTES < a.taken + length (bytes_wanted bytes))
 too_long told a b c s step =
     let n = length s.raws + 1 in
-    with_both (unread told a) _ _ _ (begins (unread told a) (unread told b) a.taken b.taken s.raws s.handed.took)
+    with_both (unread told a) _ _ _ (begins s.handed.took)
     (next_too_long (unread told a) (unread told b) (unread told c) a.taken b.taken c.taken s.raws (current_line c) n s.handed.took step refl)
     (λ xs e lt.
     let wanted : n ≤ lines_wanted (lines_of xs) =

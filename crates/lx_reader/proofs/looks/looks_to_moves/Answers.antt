@@ -6,8 +6,7 @@ pub loop-left-preserved : goal.loop-left-preserved
 loop-left-preserved g c =
     let at : c.loop-left.left ≡ suc (c.loop-left.left - 1) = omega (arith, c.loop-left-test.true) in
     record {
-      looked = looked_next c.args.show.now c.loop-left.show c.change_cue.new.show (c.loop-left.left - 1)
-          (subst (λ k. IsLooked k c.args.show.now c.loop-left.show) at c.loop-left.invariant.looked) c.in_ok-change_cue.ensures.moves;
-      valid = c.in_ok-change_cue.ensures.valid;
+      looked = looked_next (c.loop-left.left - 1) (subst (λ k. IsLooked k c.args.show.now c.loop-left.show) at c.loop-left.invariant.looked)
+          c.in_ok-change_cue.ensures.moves;
       count = c.in_ok-change_cue.ensures.cause.kept ∙ c.loop-left.invariant.count;
     }

@@ -1,4 +1,4 @@
-use Rattle.lx_reader.proofs.Imports.{ap, ◌∙◌, subst, left, onto, ReadsLevels}
+use Rattle.lx_reader.proofs.Imports.{ap, ◌∙◌, left, onto}
 use Rattle.lx_reader.proofs.OpenMoves.{level_alone, levels_none, levels_then}
 use Rattle.lx_reader.proofs.open_moves.put_line.Goals as goal
 
@@ -15,8 +15,7 @@ loop-tokens-preserved c =
 pub returns-in-Ok-None-clause-levels : goal.returns-in-Ok-None-clause-levels
 returns-in-Ok-None-clause-levels c =
     let none = rw c.in-Ok-None.field-0-is at c.in-Ok-None.ensures.list in
-    subst (λ rest. ReadsLevels c.args.i c.args.part c.args.least (left c.args.tokens) rest c.put_near.result.1 c.args.row.now
-    c.put_near.new.row) none (levels_then c.loop-tokens.invariant (c.put_near.ensures.levels c.args.i))
+    rw none at (levels_then c.loop-tokens.invariant (c.put_near.ensures.levels c.args.i))
 
 pub returns-in-Err-clause-fault : goal.returns-in-Err-clause-fault
 returns-in-Err-clause-fault c =
@@ -25,6 +24,4 @@ returns-in-Err-clause-fault c =
 
 pub returns-then-is_at_end-clause-levels : goal.returns-then-is_at_end-clause-levels
 returns-then-is_at_end-clause-levels c =
-    subst (λ rest. ReadsLevels c.args.i c.args.part c.args.least (left c.args.tokens) rest c.put_near.result.1 c.args.row.now
-    c.put_near.new.row) (c.is_at_end.ensures c.if-is_at_end.true)
-    (levels_then c.loop-tokens.invariant (c.put_near.ensures.levels c.args.i))
+    rw (c.is_at_end.ensures c.if-is_at_end.true) at (levels_then c.loop-tokens.invariant (c.put_near.ensures.levels c.args.i))

@@ -6,17 +6,13 @@ pub put_in_cue-requires-clause-most : goal.put_in_cue-requires-clause-most
 put_in_cue-requires-clause-most g c = omega (arith, c.channels-channels.ensures.channels, c.channels-channels.ensures.valid.channels.most)
 
 pub put_in_cue-requires-clause-within : goal.put_in_cue-requires-clause-within
-put_in_cue-requires-clause-within g c =
-    moves_within c.args.show.now c.args.moves.now c.args.cue c.channels-channels.result c.channels-channels.ensures.channels c.requires
+put_in_cue-requires-clause-within g c = moves_within c.channels-channels.ensures.channels c.requires
 
 pub put_cue-requires-clause-valid : goal.put_cue-requires-clause-valid
-put_cue-requires-clause-valid g c =
-    subst (ValidCue c.args.show.now.channels)
-    (sym (cue_written c.args.moves.now c.put_in_cue.new.list _ c.args.cue c.cue.view_is c.in_ok-put_in_cue.ensures.list))
-    (filled_valid c.args.show.now c.args.moves.now c.args.cue c.requires)
+put_cue-requires-clause-valid g c = subst (ValidCue c.args.show.now.channels)
+    (sym (cue_written c.args.moves.now c.cue.view_is c.in_ok-put_in_cue.ensures.list)) (filled_valid c.requires)
 
 pub returns-clause-show : goal.returns-clause-show
-returns-clause-show g c =
-    let show = c.args.show.now in
-    let cue = cue_written c.args.moves.now c.put_in_cue.new.list _ c.args.cue c.cue.view_is c.in_ok-put_in_cue.ensures.list in
-    c.put_cue.ensures ∙ (λ j. record show { cues = placed (λ x. x.number) (cue j) show.cues })
+returns-clause-show g c = let show = c.args.show.now in c.put_cue.ensures ∙ (λ j. record show {
+  cues = placed (λ x. x.number) (cue_written c.args.moves.now c.cue.view_is c.in_ok-put_in_cue.ensures.list j) show.cues;
+})

@@ -6,29 +6,24 @@ pub loop-reader-init : goal.loop-reader-init
 loop-reader-init g c =
     let e = c.new-reader.ensures in
     record {
-      passage = passage_none g.S.Source c.args.lines.now (settled c.new-reader.result) c.requires.going c.in-Ok.ensures.show e.reader;
+      passage = passage_none g.S.Source c.args.lines.now c.requires.first c.requires.going c.in-Ok.ensures.show e.reader;
       fits = e.fits;
       count = c.in-Ok.ensures.cause.kept;
     }
 
 pub read_line-requires-clause-ready : goal.read_line-requires-clause-ready
-read_line-requires-clause-ready g c = passage_ready g.S.Source c.args.lines.now c.loop-reader.lines
-    (settled c.loop-reader.reader) c.requires.first c.loop-reader.invariant.passage
+read_line-requires-clause-ready g c = passage_ready c.loop-reader.invariant.passage
 
 pub returns-in_err-read_line-clause-answer : goal.returns-in_err-read_line-clause-answer
 returns-in_err-read_line-clause-answer g c =
-    let e = c.in_err-read_line.ensures in
-    handed_on g.S.Source c.args.lines.now c.read_line.new.lines c.args.form c.from_residual.result
-    c.in_err-read_line.field-0.0 c.from_residual.ensures.1
-    (passage_fault g.S.Source c.args.lines.now c.loop-reader.lines c.read_line.new.lines c.args.form
-    (settled c.loop-reader.reader) (settled c.read_line.new.reader) c.requires.first c.loop-reader.invariant.passage c.in_err-read_line.field-0.0 e.turn)
+    let fault = c.in_err-read_line.field-0.0 in
+    handed_on g.S.Source c.args.lines.now c.read_line.new.lines c.args.form c.from_residual.result fault c.from_residual.ensures.1
+    (passage_fault c.loop-reader.invariant.passage c.read_line.new.lines c.args.form (settled c.read_line.new.reader) fault
+    c.in_err-read_line.ensures.turn)
 
 pub returns-then-reader-clause-answer : goal.returns-then-reader-clause-answer
-returns-then-reader-clause-answer g c =
-    let e = c.in_ok-read_line.ensures in
-    passage_loaded g.S.Source c.args.lines.now c.loop-reader.lines c.read_line.new.lines c.args.form
-    (settled c.loop-reader.reader) (settled c.read_line.new.reader) c.requires.first c.loop-reader.invariant.passage c.loaded_by.result
-    c.in_ok-read_line.field-0 e.turn c.if-reader.true c.loaded_by.ensures.loaded
+returns-then-reader-clause-answer g c = passage_loaded c.loop-reader.invariant.passage c.read_line.new.lines c.args.form
+    (settled c.read_line.new.reader) c.loaded_by.result c.in_ok-read_line.ensures.turn c.if-reader.true c.loaded_by.ensures.loaded
 
 pub returns-then-reader-clause-read : goal.returns-then-reader-clause-read
 returns-then-reader-clause-read g c = λ read. loaded_read c.args.form (settled c.read_line.new.reader) c.loaded_by.result c.loaded_by.ensures.loaded read
@@ -37,9 +32,8 @@ pub loop-reader-preserved : goal.loop-reader-preserved
 loop-reader-preserved g c =
     let e = c.in_ok-read_line.ensures in
     record {
-      passage = passage_more g.S.Source c.args.lines.now c.loop-reader.lines c.read_line.new.lines c.args.form
-          (settled c.loop-reader.reader) (settled c.read_line.new.reader) c.requires.first c.loop-reader.invariant.passage
-          c.in_ok-read_line.field-0 e.turn c.if-reader.false;
+      passage = passage_more c.loop-reader.invariant.passage c.read_line.new.lines c.args.form (settled c.read_line.new.reader) e.turn
+          c.if-reader.false;
       fits = e.fits;
       count = e.cause.kept ∙ c.loop-reader.invariant.count;
     }

@@ -1,36 +1,30 @@
-use Rattle.lx_reader.proofs.Imports.{subst, sym, IsOkAnd, left, HasUp, HasDown, cue_entry, ChangesCue, CueSays, facts_at, refl}
-use Rattle.lx_reader.proofs.LineSteps.{times_fault}
+use Rattle.lx_reader.proofs.Imports.{left, HasUp, HasDown, refl}
+use Rattle.lx_reader.proofs.LineSteps.{times_are}
 use Rattle.lx_reader.proofs.OpenSteps.{cue_stops, times_say}
 use Rattle.lx_reader.proofs.record_lines.line_of_cue.Goals as goal
 
 pub returns-in_err-time-in-Up : goal.returns-in_err-time-in-Up
 returns-in_err-time-in-Up c =
-    subst (λ w. CueSays (cue_entry (facts_at c.args.i) c.args.line.now w (left c.args.tokens)) c.args.cue.now c.args.cue.now c.args.part.now
-    c.args.part.now c.from_residual-in_err-time-in-Up.result) (sym c.in-Up.is)
-    (cue_stops c.args.cue.now c.args.cue.now c.args.part.now c.args.part.now c.from_residual-in_err-time-in-Up.result _ c.in_err-time-in-Up.field-0.0
-    c.from_residual-in_err-time-in-Up.ensures.1
-    (times_fault c.args.i (λ t d. HasUp t d) (left c.args.tokens) c.in_err-time-in-Up.field-0.0 c.in_err-time-in-Up.ensures.numbers))
-
-pub returns-in_err-time-in-Down : goal.returns-in_err-time-in-Down
-returns-in_err-time-in-Down c =
-    subst (λ w. CueSays (cue_entry (facts_at c.args.i) c.args.line.now w (left c.args.tokens)) c.args.cue.now c.args.cue.now c.args.part.now
-    c.args.part.now c.from_residual-in_err-time-in-Down.result) (sym c.in-Down.is)
-    (cue_stops c.args.cue.now c.args.cue.now c.args.part.now c.args.part.now c.from_residual-in_err-time-in-Down.result _ c.in_err-time-in-Down.field-0.0
-    c.from_residual-in_err-time-in-Down.ensures.1
-    (times_fault c.args.i (λ t d. HasDown t d) (left c.args.tokens) c.in_err-time-in-Down.field-0.0 c.in_err-time-in-Down.ensures.numbers))
+    rw c.in-Up.is (cue_stops c.args.cue.now c.args.cue.now c.args.part.now c.args.part.now c.from_residual-in_err-time-in-Up.result _
+    c.in_err-time-in-Up.field-0.0 c.from_residual-in_err-time-in-Up.ensures.1
+    (times_are c.args.i (λ t d. HasUp t d) (left c.args.tokens) c.in_err-time-in-Up.ensures.numbers))
 
 pub returns-in_ok-time-in-Up : goal.returns-in_ok-time-in-Up
 returns-in_ok-time-in-Up c =
     let e = c.in_ok-time-in-Up.ensures in
-    subst (λ w. IsOkAnd (cue_entry (facts_at c.args.i) c.args.line.now w (left c.args.tokens)) (ChangesCue c.args.cue.now c.set_up.new.cue
-    c.args.part.now c.args.part.now)) (sym c.in-Up.is)
-    (times_say (λ t d. HasUp t d) c.args.i (left c.args.tokens) (c.in_ok-time-in-Up.time, c.in_ok-time-in-Up.delay) c.args.cue.now c.set_up.new.cue
-    c.args.part.now e.numbers (record { own = refl; cue = c.set_up.ensures; part = refl; ranges = e.times }))
+    rw c.in-Up.is (times_say (λ t d. HasUp t d) c.args.i (left c.args.tokens) (c.in_ok-time-in-Up.time, c.in_ok-time-in-Up.delay)
+    c.args.cue.now
+    c.set_up.new.cue c.args.part.now e.numbers (record { own = refl; cue = c.set_up.ensures; part = refl; ranges = e.times }))
+
+pub returns-in_err-time-in-Down : goal.returns-in_err-time-in-Down
+returns-in_err-time-in-Down c =
+    rw c.in-Down.is (cue_stops c.args.cue.now c.args.cue.now c.args.part.now c.args.part.now c.from_residual-in_err-time-in-Down.result _
+    c.in_err-time-in-Down.field-0.0 c.from_residual-in_err-time-in-Down.ensures.1
+    (times_are c.args.i (λ t d. HasDown t d) (left c.args.tokens) c.in_err-time-in-Down.ensures.numbers))
 
 pub returns-in_ok-time-in-Down : goal.returns-in_ok-time-in-Down
 returns-in_ok-time-in-Down c =
     let e = c.in_ok-time-in-Down.ensures in
-    subst (λ w. IsOkAnd (cue_entry (facts_at c.args.i) c.args.line.now w (left c.args.tokens)) (ChangesCue c.args.cue.now c.set_down.new.cue
-    c.args.part.now c.args.part.now)) (sym c.in-Down.is)
-    (times_say (λ t d. HasDown t d) c.args.i (left c.args.tokens) (c.in_ok-time-in-Down.time, c.in_ok-time-in-Down.delay) c.args.cue.now c.set_down.new.cue
-    c.args.part.now e.numbers (record { own = refl; cue = c.set_down.ensures; part = refl; ranges = e.times }))
+    rw c.in-Down.is (times_say (λ t d. HasDown t d) c.args.i (left c.args.tokens) (c.in_ok-time-in-Down.time, c.in_ok-time-in-Down.delay)
+    c.args.cue.now
+    c.set_down.new.cue c.args.part.now e.numbers (record { own = refl; cue = c.set_down.ensures; part = refl; ranges = e.times }))

@@ -19,10 +19,9 @@ give_reply-requires-in-LongLine-clause-room g c = record {
 pub returns-in_err-give_reply-in-Line-clause-outcome : goal.returns-in_err-give_reply-in-Line-clause-outcome
 returns-in_err-give_reply-in-Line-clause-outcome g c = λ all ample may.
     let e = c.in-Line.ensures in
-    unwritten _ (λ since state. g.A.AnswersBeside.stands since all state c.args.answerer.now c.args.lent.now)
-    (λ since state. g.A.AnswersBeside.stands since all state c.give_reply.new.answerer c.give_reply.new.lent) g.S.Source
-    c.args.lines.now c.advance.new.self (g.K.Sink.holds c.args.sink.now) (g.K.Sink.holds c.flush_before_wait.new.sink)
-    (g.K.Sink.holds c.give_reply.new.sink) c.args.tally.now c.give_reply.new.tally c.in_err-give_reply-in-Line.field-0.0
+    unwritten _ _ _ g.S.Source c.args.lines.now c.advance.new.self (g.K.Sink.holds c.args.sink.now)
+    (g.K.Sink.holds c.flush_before_wait.new.sink) (g.K.Sink.holds c.give_reply.new.sink)
+    c.args.tally.now c.give_reply.new.tally c.in_err-give_reply-in-Line.field-0.0
     c.from_residual-in_err-give_reply-in-Line.result c.from_residual-in_err-give_reply-in-Line.ensures
     (handed_one _ _ _ e.step.0 e.step.1 e.counted.1 e.counted.0 e.same_reference e.cause.kept) c.flush_before_wait.ensures.holds
     (c.in_err-give_reply-in-Line.ensures.outcome all ample may _ (c.line.ensures.line ∙ e.step.2))
@@ -30,10 +29,9 @@ returns-in_err-give_reply-in-Line-clause-outcome g c = λ all ample may.
 pub returns-in_ok-give_reply-in-Line-clause-outcome : goal.returns-in_ok-give_reply-in-Line-clause-outcome
 returns-in_ok-give_reply-in-Line-clause-outcome g c = λ all ample may.
     let e = c.in-Line.ensures in
-    answered _ (λ since state. g.A.AnswersBeside.stands since all state c.args.answerer.now c.args.lent.now)
-    (λ since state. g.A.AnswersBeside.stands since all state c.give_reply.new.answerer c.give_reply.new.lent) g.S.Source
-    c.args.lines.now c.advance.new.self (g.K.Sink.holds c.args.sink.now) (g.K.Sink.holds c.flush_before_wait.new.sink)
-    (g.K.Sink.holds c.give_reply.new.sink) c.args.tally.now c.give_reply.new.tally c.in_ok-give_reply-in-Line.field-0
+    answered _ _ _ g.S.Source c.args.lines.now c.advance.new.self (g.K.Sink.holds c.args.sink.now)
+    (g.K.Sink.holds c.flush_before_wait.new.sink) (g.K.Sink.holds c.give_reply.new.sink)
+    c.args.tally.now c.give_reply.new.tally c.in_ok-give_reply-in-Line.field-0
     (handed_one _ _ _ e.step.0 e.step.1 e.counted.1 e.counted.0 e.same_reference e.cause.kept) c.flush_before_wait.ensures.holds
     (c.in_ok-give_reply-in-Line.ensures.outcome all ample may _ (c.line.ensures.line ∙ e.step.2))
 
@@ -50,10 +48,9 @@ returns-in_ok-give_reply-in-Line-clause-cause g c =
 pub returns-in_err-give_reply-in-LongLine-clause-outcome : goal.returns-in_err-give_reply-in-LongLine-clause-outcome
 returns-in_err-give_reply-in-LongLine-clause-outcome g c = λ all ample may.
     let e = c.in-LongLine.ensures in
-    unwritten _ (λ since state. g.A.AnswersBeside.stands since all state c.args.answerer.now c.args.lent.now)
-    (λ since state. g.A.AnswersBeside.stands since all state c.give_reply-in-LongLine.new.answerer c.give_reply-in-LongLine.new.lent) g.S.Source
-    c.args.lines.now c.advance.new.self (g.K.Sink.holds c.args.sink.now) (g.K.Sink.holds c.flush_before_wait.new.sink)
-    (g.K.Sink.holds c.give_reply-in-LongLine.new.sink) c.args.tally.now c.give_reply-in-LongLine.new.tally c.in_err-give_reply-in-LongLine.field-0.0
+    unwritten _ _ _ g.S.Source c.args.lines.now c.advance.new.self (g.K.Sink.holds c.args.sink.now)
+    (g.K.Sink.holds c.flush_before_wait.new.sink) (g.K.Sink.holds c.give_reply-in-LongLine.new.sink)
+    c.args.tally.now c.give_reply-in-LongLine.new.tally c.in_err-give_reply-in-LongLine.field-0.0
     c.from_residual-in_err-give_reply-in-LongLine.result c.from_residual-in_err-give_reply-in-LongLine.ensures
     (handed_one _ _ _ e.step.0 e.step.1 e.counted.1 e.counted.0 e.same_reference e.cause.kept) c.flush_before_wait.ensures.holds
     (c.in_err-give_reply-in-LongLine.ensures.outcome all ample may _ e.step.3)
@@ -61,10 +58,9 @@ returns-in_err-give_reply-in-LongLine-clause-outcome g c = λ all ample may.
 pub returns-in_ok-give_reply-in-LongLine-clause-outcome : goal.returns-in_ok-give_reply-in-LongLine-clause-outcome
 returns-in_ok-give_reply-in-LongLine-clause-outcome g c = λ all ample may.
     let e = c.in-LongLine.ensures in
-    answered _ (λ since state. g.A.AnswersBeside.stands since all state c.args.answerer.now c.args.lent.now)
-    (λ since state. g.A.AnswersBeside.stands since all state c.give_reply-in-LongLine.new.answerer c.give_reply-in-LongLine.new.lent) g.S.Source
-    c.args.lines.now c.advance.new.self (g.K.Sink.holds c.args.sink.now) (g.K.Sink.holds c.flush_before_wait.new.sink)
-    (g.K.Sink.holds c.give_reply-in-LongLine.new.sink) c.args.tally.now c.give_reply-in-LongLine.new.tally c.in_ok-give_reply-in-LongLine.field-0
+    answered _ _ _ g.S.Source c.args.lines.now c.advance.new.self (g.K.Sink.holds c.args.sink.now)
+    (g.K.Sink.holds c.flush_before_wait.new.sink) (g.K.Sink.holds c.give_reply-in-LongLine.new.sink)
+    c.args.tally.now c.give_reply-in-LongLine.new.tally c.in_ok-give_reply-in-LongLine.field-0
     (handed_one _ _ _ e.step.0 e.step.1 e.counted.1 e.counted.0 e.same_reference e.cause.kept) c.flush_before_wait.ensures.holds
     (c.in_ok-give_reply-in-LongLine.ensures.outcome all ample may _ e.step.3)
 

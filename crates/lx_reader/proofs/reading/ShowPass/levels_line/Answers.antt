@@ -1,4 +1,4 @@
-use Rattle.lx_reader.proofs.Imports.{map, ◌≤◌, [], arith, subst, CHANNELS, left, ReadsLevels}
+use Rattle.lx_reader.proofs.Imports.{map, ◌≤◌, arith, CHANNELS}
 use Rattle.lx_reader.proofs.Members.{greatest_least, greatest_most}
 use Rattle.lx_reader.proofs.OpenLevels.{levels_outcome, still_fits}
 use Rattle.lx_reader.proofs.reading.ShowPass.levels_line.Goals as goal
@@ -18,17 +18,11 @@ widen-requires-clause-most g c =
 pub returns-clause-outcome : goal.returns-clause-outcome
 returns-clause-outcome g c =
     let g = c.args.self.now in
-    let read = subst
-    (λ n. ReadsLevels c.args.i g.reader.part n (left c.args.tokens) [] c.in_ok-greatest.greatest g.moves c.put_line.new.self)
-    c.channels-channels.ensures.channels c.in_ok-greatest.ensures.levels in
-    levels_outcome g.reader g.moves c.put_line.new.self c.args.i c.in_ok-greatest.greatest (left c.args.tokens) read g.held c.widen.new.self
-    c.widen.ensures c.requires.open_one c.requires.pass.ready.going c.requires.pass.fits
+    let read = rw c.channels-channels.ensures.channels at c.in_ok-greatest.ensures.levels in
+    levels_outcome g.reader read g.held c.widen.ensures c.requires.open_one c.requires.pass.ready.going c.requires.pass.fits
 
 pub returns-clause-fits : goal.returns-clause-fits
 returns-clause-fits g c =
     let g = c.args.self.now in
-    let read = subst
-    (λ n. ReadsLevels c.args.i g.reader.part n (left c.args.tokens) [] c.in_ok-greatest.greatest g.moves c.put_line.new.self)
-    c.channels-channels.ensures.channels c.in_ok-greatest.ensures.levels in
-    still_fits g.reader g.moves c.put_line.new.self c.args.i c.in_ok-greatest.greatest (left c.args.tokens) read g.held c.widen.new.self
-    c.widen.ensures c.requires.open_one c.requires.pass.ready.open_section c.requires.pass.fits
+    let read = rw c.channels-channels.ensures.channels at c.in_ok-greatest.ensures.levels in
+    still_fits g.reader read g.held c.widen.ensures c.requires.open_one c.requires.pass.ready.open_section c.requires.pass.fits

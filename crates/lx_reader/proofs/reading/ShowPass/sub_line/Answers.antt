@@ -1,32 +1,26 @@
-use Rattle.lx_reader.proofs.Imports.{◌∙◌, ap, Ok, Err, Some, None, SUBS, InSub, left, settled, with_open, read_whole, filled_set, placed}
+use Rattle.lx_reader.proofs.Imports.{◌∙◌, ap, settled, with_open, InSub, SUBS, read_whole, filled_set, placed, left}
 use Rattle.lx_reader.specs.declared.open_record.Open.TheVariants as open_records
-use Rattle.lx_reader.proofs.LineSteps.{stops, record_says, read_as, other_page, begins}
-use Rattle.lx_reader.proofs.OpenRecords.{opened_none}
-use Rattle.lx_reader.proofs.OpenSteps.{opened}
+use Rattle.lx_reader.proofs.LineSteps.{stops, record_says, read_as, other_page, begins, opened}
 use Rattle.lx_reader.proofs.reading.ShowPass.sub_line.Goals as goal
 
 pub returns-in_err-s-clause-outcome : goal.returns-in_err-s-clause-outcome
 returns-in_err-s-clause-outcome g c =
-    let r = c.args.self.now.reader in
-    stops r (settled c.args.self.now) c.args.i c.from_residual.result _ c.in_err-s.field-0.0 c.from_residual.ensures.1
-    (record_says (λ said. said) r c.args.i InSub (read_whole 1 SUBS) (left c.args.tokens) (Err c.in_err-s.field-0.0) c.requires.identified
-    c.in_err-s.ensures)
+    stops c.args.self.now.reader (settled c.args.self.now) c.args.i c.from_residual.result
+    (record_says c.requires (λ said. said) InSub (read_whole 1 SUBS) (left c.args.tokens) c.in_err-s.ensures) c.from_residual.ensures.1
 
 pub returns-in_default-clause-outcome : goal.returns-in_default-clause-outcome
 returns-in_default-clause-outcome g c =
-    let x = c.args.self.now in
-    other_page x.reader _ c.args.i _ (record_says (λ said. said) x.reader c.args.i InSub (read_whole 1 SUBS) (left c.args.tokens) (Ok None)
-    c.requires.identified (read_as c.in_ok-s.ensures c.in_default.is)) c.requires.ready.going
-    (opened_none c.skip_record.new.self x.held x.moves c.requires.none ∙ c.skip_record.ensures)
+    other_page c.requires (record_says c.requires (λ said. said) InSub (read_whole 1 SUBS) (left c.args.tokens)
+    (read_as c.in_ok-s.ensures c.in_default.is))
+    c.skip_record.ensures
 
 pub returns-clause-outcome : goal.returns-clause-outcome
 returns-clause-outcome g c =
-    let x = c.args.self.now in
-    let set = c.open_sub.result in
-    let left_show = c.open_sub.new.show in
-    begins x.reader _ (with_open (open_records.Sub set) x.moves left_show) c.args.i (InSub c.in-Some.s) _
-    (record_says (λ said. said) x.reader c.args.i InSub (read_whole 1 SUBS) (left c.args.tokens) (Ok (Some c.in-Some.s))
-    c.requires.identified (read_as c.in_ok-s.ensures c.in-Some.is)) c.requires.ready.going
-    ((λ j. record (c.open_sub.ensures.show j) { subs = placed (λ y. y.number) (filled_set (c.requires.empty j) set) left_show.subs })
-    ∙ (λ j. record x.reader.show { subs = c.open_sub.ensures.subs j }))
-    (ap (λ r. opened r (open_records.Sub set) x.moves) c.enter.ensures)
+    let g = c.args.self.now in
+    let it = c.open_sub.result in
+    let others = c.open_sub.new.show in
+    begins c.requires {show = with_open (open_records.Sub it) g.moves others}
+    (record_says c.requires (λ said. said) InSub (read_whole 1 SUBS) (left c.args.tokens) (read_as c.in_ok-s.ensures c.in-Some.is))
+    ((λ j. record (c.open_sub.ensures.show j) { subs = placed (λ x. x.number) (filled_set (c.requires.empty j) it) others.subs })
+    ∙ (λ j. record g.reader.show { subs = c.open_sub.ensures.subs j }))
+    (ap (λ r. opened r (open_records.Sub it) g.moves) c.enter.ensures)
