@@ -7,3 +7,4 @@ pub mod EngineAnswers
 pub mod Transcripts
 pub mod OperatorWorks
 pub mod CrewOutcome
+pub mod Imports

@@ -2,15 +2,9 @@
 #![tactic(auto, using(lx_io::proofs::Chain::puts))]
 
 ghost use Rattle.std.specs.Prelude.{◌≡◌, ◌≤◌, ◌+◌, None, Some, Bool, true, List, ℕ, ◌++◌, ◌∷◌, [], option_copied};
-ghost use Rattle.lx_io.specs.Puts.{Puts, HasSinkCause};
-ghost use Rattle.lx_spec.specs.CrewText.{op_text};
-ghost use Rattle.lx_spec.specs.Desk.{Desk};
-ghost use Rattle.lx_session.specs.LineState.{meaning_of};
-ghost use Rattle.lx_session.specs.LineReply.{TallyHasRoom, HasOneMore};
-ghost use Rattle.lx_session.specs.LineAnswer.{FromDesk};
-ghost use Rattle.lx_session.specs.Spared.{HasStood};
+ghost use Rattle.lx_crew.specs.Imports.{Puts, HasSinkCause, op_text, Desk, meaning_of, TallyHasRoom, HasOneMore, FromDesk, HasStood};
+ghost use Rattle.lx_crew.specs.Imports.{AnswersNamed, HasAnswered, OutputCause, named_line};
 ghost use Rattle.lx_crew.specs.declared.entry.Message.{Message as AnEntry};
-ghost use Rattle.lx_crew.specs.EngineAnswers.{AnswersNamed, HasAnswered, OutputCause, named_line};
 
 use crate::entry::{Message, Sent};
 use lx_console::Console;

@@ -2,18 +2,10 @@
 
 ghost use Rattle.std.specs.Prelude.{◌≡◌, ◌+◌, ◌<◌, ◌≤◌, ◌⊎◌, ℕ, Bool, List, [], ◌++◌, ◌∷◌, length, map, true, false, slice_get, Some, None};
 ghost use Rattle.std.specs.Prelude.{IfOk, OnErr, IsSome, vec_len, vec_capacity};
-ghost use Rattle.std.specs.List.{All, AllZip};
-ghost use Rattle.crossbeam_queue.specs.Passes.{view, IsPassOf, IsSamePass};
-ghost use Rattle.lx_io.specs.Causes.{Rose};
-ghost use Rattle.lx_spec.specs.Desk.{Desk};
-ghost use Rattle.lx_session.specs.Spared.{HasStood};
-ghost use Rattle.lx_console.specs.ConsoleMeaning.{StandsFor};
+ghost use Rattle.lx_crew.specs.Imports.{All, AllZip, view, IsPassOf, IsSamePass, Rose, Desk, HasStood, StandsFor, engine_view};
+ghost use Rattle.lx_crew.specs.Imports.{HasServedEntries, OutputCause, HasCrewed, EachAt, HasRunOperator, Hired, HasSentNothing, Works};
+ghost use Rattle.lx_crew.specs.Imports.{owned};
 ghost use Rattle.lx_base.specs.declared.TheConstants.{OPERATORS};
-ghost use Rattle.lx_crew.specs.Rule.{engine_view};
-ghost use Rattle.lx_crew.specs.EngineAnswers.{HasServedEntries, OutputCause};
-ghost use Rattle.lx_crew.specs.CrewOutcome.{HasCrewed};
-ghost use Rattle.lx_base.specs.Places.{EachAt};
-ghost use Rattle.lx_crew.specs.OperatorWorks.{HasRunOperator, Hired, HasSentNothing, Works, owned};
 
 use crate::engine::{CrewEngine, PLACES};
 use crate::entry::Message;

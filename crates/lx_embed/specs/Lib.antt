@@ -5,3 +5,4 @@ pub mod Opened
 pub mod Told
 pub mod TakenSlots
 pub mod LineEnds
+pub mod Imports

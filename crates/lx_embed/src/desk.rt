@@ -1,22 +1,11 @@
 //! The desk that a host embeds.
 
 ghost use Rattle.std.specs.Prelude.{◌≡◌, ◌≢◌, ◌≤◌, ◌<◌, ◌↔◌, ℕ, None, Some, true, false, length, IsSome, IfSome, IfOk, IfErr, OnErr};
-ghost use Rattle.std.specs.Result.{IsErr};
+ghost use Rattle.lx_embed.specs.Imports.{IsErr, HasCauseOf, Rose, Desk, step, fader, frame, on_stage, tracked, StandsFor, ByMemory};
+ghost use Rattle.lx_embed.specs.Imports.{Answered, console_of, IsUntouched, OpensText, RefusesShow, reply_bytes, wants_of, taken_of};
+ghost use Rattle.lx_embed.specs.Imports.{Stands, AcceptedTicks};
 ghost use Rattle.lx_base.specs.declared.TheConstants.{CUE_MAX, SUBS, UNIVERSES, UNIVERSE_SLOTS};
-ghost use Rattle.lx_io.specs.Causes.{HasCauseOf, Rose};
 ghost use Rattle.lx_spec.specs.declared.Command.TheVariants as Command;
-ghost use Rattle.lx_spec.specs.Desk.{Desk, step};
-ghost use Rattle.lx_spec.specs.Output.{fader, frame};
-ghost use Rattle.lx_spec.specs.RecordedLevels.{on_stage};
-ghost use Rattle.lx_spec.specs.TrackedLevel.{tracked};
-ghost use Rattle.lx_console.specs.ConsoleMeaning.{StandsFor};
-ghost use Rattle.lx_session.specs.Spared.{ByMemory};
-ghost use Rattle.lx_embed.specs.Answered.{Answered};
-ghost use Rattle.lx_embed.specs.Engines.{console_of};
-ghost use Rattle.lx_embed.specs.Opened.{IsUntouched, OpensText, RefusesShow};
-ghost use Rattle.lx_embed.specs.ReplyBytes.{reply_bytes, wants_of};
-ghost use Rattle.lx_embed.specs.TakenSlots.{taken_of};
-ghost use Rattle.lx_embed.specs.Told.{Stands, AcceptedTicks};
 
 use crate::engine::Engine;
 use crate::open::open_text;

@@ -1,20 +1,10 @@
 //! What a host's desk answers with: a plain desk, or one with its history.
 
 ghost use Rattle.std.specs.Prelude.{◌≡◌, ◌≤◌, ◌<◌, [], true, IfOk, OnErr};
-ghost use Rattle.std.specs.Result.{IsErr};
-ghost use Rattle.lx_io.specs.Causes.{HasCause, Rose};
+ghost use Rattle.lx_embed.specs.Imports.{IsErr, HasCause, Rose, Desk, step, UndoState, begun, desk_answering, undo_answering, StandsFor};
+ghost use Rattle.lx_embed.specs.Imports.{ByMemory, spared, UndoStands, Answered, AnswersLine, console_of, OpenedAs, reply_bytes, wants_of};
+ghost use Rattle.lx_embed.specs.Imports.{AcceptedTicks};
 ghost use Rattle.lx_spec.specs.declared.Command.TheVariants as Command;
-ghost use Rattle.lx_spec.specs.Desk.{Desk, step};
-ghost use Rattle.lx_spec.specs.Undo.{UndoState};
-ghost use Rattle.lx_spec.specs.DeskSession.{begun, desk_answering};
-ghost use Rattle.lx_spec.specs.UndoSession.{undo_answering};
-ghost use Rattle.lx_console.specs.ConsoleMeaning.{StandsFor};
-ghost use Rattle.lx_session.specs.Spared.{ByMemory, spared};
-ghost use Rattle.lx_undo.specs.UndoDeskMeaning.{UndoStands};
-ghost use Rattle.lx_embed.specs.Answered.{Answered, AnswersLine};
-ghost use Rattle.lx_embed.specs.Engines.{console_of, OpenedAs};
-ghost use Rattle.lx_embed.specs.ReplyBytes.{reply_bytes, wants_of};
-ghost use Rattle.lx_embed.specs.Told.{AcceptedTicks};
 
 use crate::reply::ReplyText;
 use crate::ticks::{tick_plain, tick_undo};

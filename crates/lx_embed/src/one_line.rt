@@ -1,8 +1,7 @@
 //! Whether bytes are one line.
 
 ghost use Rattle.std.specs.Prelude.{◌≡◌, ◌≤◌, ◌+◌, length};
-ghost use Rattle.lx_embed.specs.Answered.{is_bare};
-ghost use Rattle.lx_embed.specs.LineEnds.{ends_line, TellsEnd};
+ghost use Rattle.lx_embed.specs.Imports.{is_bare, ends_line, TellsEnd};
 
 /// Whether the bytes are one line without its end: no LF and no CR is among them.
 ///

@@ -1,8 +1,7 @@
 //! A desk over a show's text.
 
 ghost use Rattle.std.specs.Prelude.{◌≡◌, IfOk, IfErr};
-ghost use Rattle.lx_io.specs.Causes.{HasCauseOf};
-ghost use Rattle.lx_embed.specs.Opened.{OpensText, RefusesShow};
+ghost use Rattle.lx_embed.specs.Imports.{HasCauseOf, OpensText, RefusesShow};
 
 use crate::engine::Engine;
 use crate::slice_source::SliceSource;

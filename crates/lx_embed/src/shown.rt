@@ -1,12 +1,8 @@
 //! What a host is shown of a console.
 
 ghost use Rattle.std.specs.Prelude.{◌≡◌, ◌≤◌, ◌↔◌, true, length, IsSome, IfSome};
+ghost use Rattle.lx_embed.specs.Imports.{Desk, fader, frame, on_stage, tracked, StandsFor};
 ghost use Rattle.lx_base.specs.declared.TheConstants.{CUE_MAX, SUBS, UNIVERSES, UNIVERSE_SLOTS};
-ghost use Rattle.lx_spec.specs.Desk.{Desk};
-ghost use Rattle.lx_spec.specs.Output.{fader, frame};
-ghost use Rattle.lx_spec.specs.RecordedLevels.{on_stage};
-ghost use Rattle.lx_spec.specs.TrackedLevel.{tracked};
-ghost use Rattle.lx_console.specs.ConsoleMeaning.{StandsFor};
 
 use lx_base::{Chan, CueNo, Level, SubNo, UNIVERSES};
 use lx_console::{Console, slots_of};

@@ -1,13 +1,8 @@
 //! Ticks that go by.
 
 ghost use Rattle.std.specs.Prelude.{◌≤◌, ◌<◌};
-ghost use Rattle.std.specs.Result.{IsErr, IsOkAnd};
+ghost use Rattle.lx_embed.specs.Imports.{IsErr, IsOkAnd, Desk, step, UndoState, StandsFor, after_ticks, UndoStands};
 ghost use Rattle.lx_spec.specs.declared.Command.TheVariants as Command;
-ghost use Rattle.lx_spec.specs.Desk.{Desk, step};
-ghost use Rattle.lx_spec.specs.Undo.{UndoState};
-ghost use Rattle.lx_console.specs.ConsoleMeaning.{StandsFor};
-ghost use Rattle.lx_console.specs.Ticks.{after_ticks};
-ghost use Rattle.lx_undo.specs.UndoDeskMeaning.{UndoStands};
 
 use lx_console::Console;
 use lx_spec::Command;

@@ -9,3 +9,4 @@ pub mod LookMoves
 pub mod OpenMoves
 pub mod Settled
 pub mod LineOfCue
+pub mod Imports

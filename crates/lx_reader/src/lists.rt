@@ -1,11 +1,10 @@
 //! The lists of a line, pair by pair and triple by triple.
 
 ghost use Rattle.std.specs.Prelude.{◌≡◌, ◌∷◌, Ok, ◌+◌, ◌≤◌, min, IfSome, MatchOption};
+ghost use Rattle.lx_reader.specs.Imports.{left, FirstIsLevel, FirstIsNumber, FirstIsMember, FirstIsRow, IsNext, TakesSome, fault_in};
+ghost use Rattle.lx_reader.specs.Imports.{all_pairs, all_triples};
 ghost use Rattle.lx_base.specs.declared.TheConstants.{CHANNELS};
 ghost use Rattle.lx_base.specs.Numbers.{percent as percent_level};
-ghost use Rattle.lx_lex.specs.Left.{left};
-ghost use Rattle.lx_lex.specs.PlainNumber.{FirstIsLevel, FirstIsNumber};
-ghost use Rattle.lx_reader.specs.FieldLists.{FirstIsMember, FirstIsRow, IsNext, TakesSome, fault_in, all_pairs, all_triples};
 
 use crate::numbers::token_fault;
 use crate::percents::PERCENTS;

@@ -1,14 +1,9 @@
 //! Whole looks, as a text of the form States has them, become moves.
 
 ghost use Rattle.std.specs.Prelude.{◌≡◌, ◌==◌, ◌≤◌, ◌<◌, ◌∷◌, ◌++◌, ℕ, List, length, not, IfOk, OnOk, if◌then◌else◌};
-ghost use Rattle.lx_io.specs.Causes.{HasCause};
+ghost use Rattle.lx_reader.specs.Imports.{HasCause, by_form, placed, Cue, Valid, level_in, last_look, look_move, moves_up_to, with_look};
 ghost use Rattle.lx_base.specs.declared.TheConstants.{CHANNELS};
 ghost use Rattle.lx_spec.specs.declared.Form.TheVariants.{States};
-ghost use Rattle.lx_spec.specs.Looks.{by_form};
-ghost use Rattle.lx_spec.specs.SortedList.{placed};
-ghost use Rattle.lx_spec.specs.Show.{Cue, Valid};
-ghost use Rattle.lx_spec.specs.TrackedLevel.{level_in};
-ghost use Rattle.lx_reader.specs.LookMoves.{last_look, look_move, moves_up_to, with_look};
 
 use lx_base::{Chan, Level, PartNo};
 use lx_io::Heap;

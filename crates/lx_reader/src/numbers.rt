@@ -1,14 +1,9 @@
 //! The numbers of a line, by their ranges, and the faults of those that it lacks.
 
 ghost use Rattle.std.specs.Prelude.{◌≡◌, ◌∷◌, [], IfOk, MatchOption};
+ghost use Rattle.lx_reader.specs.Imports.{desk_limits, read_cue_no, read_time, read_whole, delay_at, is_page_one, number, IsTime, left};
+ghost use Rattle.lx_reader.specs.Imports.{token_fault, FirstIsPage, next_number, next_times, record_number};
 ghost use Rattle.lx_base.specs.declared.TheConstants.{CHANNELS, GROUPS, PARTS, SUBS};
-ghost use Rattle.lx_spec.specs.Limits.{desk_limits};
-ghost use Rattle.lx_spec.specs.Numerals.{read_cue_no, read_time, read_whole};
-ghost use Rattle.lx_spec.specs.Fields.{delay_at, is_page_one, number};
-ghost use Rattle.lx_spec.specs.Show.{IsTime};
-ghost use Rattle.lx_lex.specs.Left.{left};
-ghost use Rattle.lx_reader.specs.FieldLists.{token_fault};
-ghost use Rattle.lx_reader.specs.FieldLists.{FirstIsPage, next_number, next_times, record_number};
 
 use lx_base::{Chan, Cs, CueNo, GroupNo, PartNo, SubNo};
 use lx_lex::{

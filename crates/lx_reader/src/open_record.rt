@@ -1,14 +1,11 @@
 //! The record that is open: a cue, group or submaster of which the lines say more. It is kept apart from the show, and is put into it once.
 
 ghost use Rattle.std.specs.Prelude.{◌≡◌, ◌≢◌, ◌||◌, length, nat_lt, IsTrue, OnOk};
-ghost use Rattle.lx_io.specs.Causes.{HasCause};
+ghost use Rattle.lx_reader.specs.Imports.{HasCause, has_entry, placed, ValidCue, ValidGroup, ValidSub, cue_with_entry, with_set, CueFits};
+ghost use Rattle.lx_reader.specs.Imports.{OpenFits, SetFits, is_open, with_open};
 ghost use Rattle.lx_base.specs.declared.TheConstants.{CUES, GROUPS, SUBS};
 ghost use Rattle.lx_spec.specs.declared.Section.{Section};
-ghost use Rattle.lx_spec.specs.SortedList.{has_entry, placed};
-ghost use Rattle.lx_spec.specs.Show.{ValidCue, ValidGroup, ValidSub};
-ghost use Rattle.lx_reader.specs.ReadingState.{cue_with_entry, with_set};
 ghost use Rattle.lx_reader.specs.declared.open_record.Open.TheVariants as open_records;
-ghost use Rattle.lx_reader.specs.Settled.{CueFits, OpenFits, SetFits, is_open, with_open};
 
 use crate::open_moves::OpenMoves;
 use lx_base::{CueNo, GroupNo, SubNo};

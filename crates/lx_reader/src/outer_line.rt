@@ -1,14 +1,9 @@
 //! The lines that stand outside of records.
 
 ghost use Rattle.std.specs.Prelude.{◌≡◌, ◌≢◌, ◌==◌, ◌<◌, ◌+◌, Ok, Err, true, [], OnOk, if◌then◌else◌};
+ghost use Rattle.lx_reader.specs.Imports.{desk_limits, is_next, entry_by_word, str_to_ascii_uppercase, left, CanGoOn, facts_of, Outcome};
 ghost use Rattle.lx_spec.specs.declared.Section.TheVariants.{NoRecord, Skipping};
 ghost use Rattle.lx_spec.specs.declared.Word.TheVariants as words;
-ghost use Rattle.lx_spec.specs.Limits.{desk_limits};
-ghost use Rattle.lx_spec.specs.LineRules.{is_next};
-ghost use Rattle.lx_spec.specs.LineRules.{entry_by_word};
-ghost use Rattle.std.specs.Str.{str_to_ascii_uppercase};
-ghost use Rattle.lx_lex.specs.Left.{left};
-ghost use Rattle.lx_reader.specs.LineOutcome.{CanGoOn, facts_of, Outcome};
 
 use crate::fault::ShowFault;
 use crate::numbers::{next_channel, take_page};

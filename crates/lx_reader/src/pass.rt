@@ -1,12 +1,8 @@
 //! The pass over the lines of a show text.
 
 ghost use Rattle.std.specs.Prelude.{◌≡◌, ◌≢◌, ◌≤◌, ◌+◌, Err, IfSome, IsTrue, OnOk};
-ghost use Rattle.lx_io.specs.Causes.{HasCauseOf, Rose};
-ghost use Rattle.lx_spec.specs.Show.{Valid};
-ghost use Rattle.lx_reader.specs.LineOutcome.{CanGoOn, state_of};
-ghost use Rattle.lx_reader.specs.ReadingState.{final_reading};
-ghost use Rattle.lx_reader.specs.Settled.{PassFits, settled};
-ghost use Rattle.lx_reader.specs.Answer.{AnswerOf, IsLoaded, TurnOf, reading_of};
+ghost use Rattle.lx_reader.specs.Imports.{HasCauseOf, Rose, Valid, CanGoOn, state_of, final_reading, PassFits, settled, AnswerOf, IsLoaded};
+ghost use Rattle.lx_reader.specs.Imports.{TurnOf, reading_of};
 
 use crate::fault::ShowFault;
 use crate::loaded::Loaded;

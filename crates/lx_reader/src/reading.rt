@@ -2,19 +2,12 @@
 //! the next record begins.
 
 ghost use Rattle.std.specs.Prelude.{◌≡◌, ◌≤◌, ◌∷◌, ◌&&◌, None, [], false, true, codes, length, OnOk, IfSome};
-ghost use Rattle.lx_io.specs.Causes.{HasCause, HasCauseOf};
+ghost use Rattle.lx_reader.specs.Imports.{HasCause, HasCauseOf, is_inner, desk_limits, levels, entry_by_word, entry_of, inner_entry};
+ghost use Rattle.lx_reader.specs.Imports.{is_makers_line, tokens, left, CanGoOn, Outcome, Said, facts_of, is_known, is_outer, new_reader};
+ghost use Rattle.lx_reader.specs.Imports.{is_levels, IsBetween, IsReady, PassFits, is_open, is_record, settled};
 ghost use Rattle.lx_base.specs.declared.TheConstants.{LINE_BYTES};
 ghost use Rattle.lx_spec.specs.declared.Word.TheVariants as words;
-ghost use Rattle.lx_spec.specs.FirstWord.{is_inner};
-ghost use Rattle.lx_spec.specs.Limits.{desk_limits};
-ghost use Rattle.lx_spec.specs.Fields.{levels};
-ghost use Rattle.lx_spec.specs.LineRules.{entry_by_word, entry_of, inner_entry, is_makers_line};
-ghost use Rattle.lx_spec.specs.Text.{tokens};
-ghost use Rattle.lx_lex.specs.Left.{left};
 ghost use Rattle.lx_reader.specs.declared.open_record.Open.TheVariants as open_records;
-ghost use Rattle.lx_reader.specs.LineOutcome.{CanGoOn, Outcome, Said, facts_of, is_known, is_outer, new_reader};
-ghost use Rattle.lx_reader.specs.LineOfCue.{is_levels};
-ghost use Rattle.lx_reader.specs.Settled.{IsBetween, IsReady, PassFits, is_open, is_record, settled};
 
 use crate::fault::ShowFault;
 use crate::numbers::{cue_of_record, group_of_record, sub_of_record};

@@ -1,9 +1,7 @@
 //! The lines within a cue, a group or a submaster that aren't of levels: what they say goes to the open record.
 
 ghost use Rattle.std.specs.Prelude.{◌≡◌, List, ℕ, false};
-ghost use Rattle.lx_spec.specs.LineRules.{cue_entry, members_entry};
-ghost use Rattle.lx_lex.specs.Left.{left};
-ghost use Rattle.lx_reader.specs.LineOfCue.{CueSays, HasParts, LabelSays, facts_at, is_levels};
+ghost use Rattle.lx_reader.specs.Imports.{cue_entry, members_entry, left, CueSays, HasParts, LabelSays, facts_at, is_levels};
 
 use crate::numbers::{next_cue_no, next_part, next_time, next_times};
 use crate::times::{ensure_part, set_down, set_up};

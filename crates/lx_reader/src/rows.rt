@@ -1,11 +1,7 @@
 //! The rows of a line are put into the patch.
 
 ghost use Rattle.std.specs.Prelude.{◌≡◌, ◌≢◌, Err, ◌∷◌, [], OnOk, IfErr};
-ghost use Rattle.std.specs.Result.{IsOkAnd};
-ghost use Rattle.lx_lex.specs.Left.{left};
-ghost use Rattle.lx_reader.specs.FieldLists.{all_triples};
-ghost use Rattle.lx_reader.specs.LineFaults.{IsFaultOf};
-ghost use Rattle.lx_reader.specs.ReadingState.{with_rows};
+ghost use Rattle.lx_reader.specs.Imports.{IsOkAnd, left, all_triples, IsFaultOf, with_rows};
 
 use crate::fault::ShowFault;
 use crate::lists::next_row;

@@ -1,13 +1,9 @@
 //! The parts of a cue, and their times.
 
 ghost use Rattle.std.specs.Prelude.{◌≡◌, Some, IsTrue};
-ghost use Rattle.std.specs.List.{AllByRecursion};
+ghost use Rattle.lx_reader.specs.Imports.{AllByRecursion, IsStrictlySorted, has_entry, entry_at, InRange, ValidPart, changed, HasParts};
+ghost use Rattle.lx_reader.specs.Imports.{with_down, part_with_entry, with_up};
 ghost use Rattle.lx_base.specs.declared.TheConstants.{PARTS};
-ghost use Rattle.lx_spec.specs.SortedList.{IsStrictlySorted, has_entry, entry_at};
-ghost use Rattle.lx_spec.specs.Show.{InRange, ValidPart};
-ghost use Rattle.lx_show.specs.ChangedEntry.{changed};
-ghost use Rattle.lx_reader.specs.LineOfCue.{HasParts};
-ghost use Rattle.lx_reader.specs.ReadingState.{with_down, part_with_entry, with_up};
 
 use lx_base::{Cs, PartNo};
 use lx_show::sorted::entry_of;

@@ -1,10 +1,7 @@
 //! The first word of a line.
 
 ghost use Rattle.std.specs.Prelude.{◌≡◌, ◌∷◌, [], codes, IfSome, MatchOption};
-ghost use Rattle.lx_spec.specs.FirstWord.{dollar_word, word_of};
-ghost use Rattle.lx_spec.specs.Text.{tokens};
-ghost use Rattle.lx_lex.specs.Left.{left};
-ghost use Rattle.lx_reader.specs.FieldLists.{FirstIsWord};
+ghost use Rattle.lx_reader.specs.Imports.{dollar_word, word_of, tokens, left, FirstIsWord};
 
 use lx_lex::{Tokens, find_word, tokens};
 use lx_spec::Word;

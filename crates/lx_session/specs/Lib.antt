@@ -12,3 +12,4 @@ pub mod LineOutcome
 pub mod SessionFaults
 pub mod SessionOutcome
 pub mod Waits
+pub mod Imports

@@ -1,17 +1,10 @@
 //! The reply to a line.
 
 ghost use Rattle.std.specs.Prelude.{◌≡◌, ◌≤◌, [], OnOk, IfOk, None, Some, not, true};
+ghost use Rattle.lx_session.specs.Imports.{Puts, HasSinkCause, Desk, frame_text, row_text, frame, show_text, reply_text, StandsFor};
+ghost use Rattle.lx_session.specs.Imports.{is_quit, next_of, frame_of, reply_to, reply_for, counts_after, counts_in, counted, TallyHasRoom};
+ghost use Rattle.lx_session.specs.Imports.{HasOneMore};
 ghost use Rattle.lx_base.specs.declared.TheConstants.{UNIVERSES};
-ghost use Rattle.lx_io.specs.Puts.{Puts, HasSinkCause};
-ghost use Rattle.lx_spec.specs.Desk.{Desk};
-ghost use Rattle.lx_spec.specs.Replies.{frame_text, row_text};
-ghost use Rattle.lx_spec.specs.Output.{frame};
-ghost use Rattle.lx_spec.specs.ShowText.{show_text};
-ghost use Rattle.lx_script.specs.ReplyTexts.{reply_text};
-ghost use Rattle.lx_console.specs.ConsoleMeaning.{StandsFor};
-ghost use Rattle.lx_spec.specs.Session.{is_quit};
-ghost use Rattle.lx_session.specs.LineState.{next_of, frame_of};
-ghost use Rattle.lx_session.specs.LineReply.{reply_to, reply_for, counts_after, counts_in, counted, TallyHasRoom, HasOneMore};
 
 use crate::tally::Tally;
 use crate::turn::Turn;

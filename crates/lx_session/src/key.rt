@@ -1,12 +1,8 @@
 //! A line that presses a key or moves a fader, which is all that it does.
 
 ghost use Rattle.std.specs.Prelude.{◌≡◌, ◌≢◌, IfOk, IsTrue, Some, is_none, is_some, true};
-ghost use Rattle.lx_io.specs.Puts.{HasSinkCause};
-ghost use Rattle.lx_spec.specs.Desk.{Desk};
-ghost use Rattle.lx_console.specs.ConsoleMeaning.{StandsFor};
-ghost use Rattle.lx_session.specs.Attempts.{Attempted, ListenedAttempt, heard_of};
-ghost use Rattle.lx_session.specs.LineAnswer.{SparedAnswer, FromDesk};
-ghost use Rattle.lx_session.specs.LineReply.{TallyHasRoom, HasOneMore};
+ghost use Rattle.lx_session.specs.Imports.{HasSinkCause, Desk, StandsFor, Attempted, ListenedAttempt, heard_of, SparedAnswer, FromDesk};
+ghost use Rattle.lx_session.specs.Imports.{TallyHasRoom, HasOneMore};
 
 use crate::finish::{give, reply_of};
 use crate::listener::Listener;

@@ -1,18 +1,9 @@
 //! One line, from its bytes to its reply.
 
 ghost use Rattle.std.specs.Prelude.{◌≡◌, ◌≢◌, ◌≤◌, ◌++◌, IfOk, IfSome, None, Some, not, true, option_copied};
-ghost use Rattle.lx_io.specs.Puts.{HasSinkCause};
-ghost use Rattle.lx_spec.specs.Desk.{Desk};
-ghost use Rattle.lx_spec.specs.Session.{is_quit};
-ghost use Rattle.lx_spec.specs.DeskSession.{DeskState};
-ghost use Rattle.lx_spec.specs.ValidEdit.{ValidCommand, ValidLine};
-ghost use Rattle.lx_console.specs.ConsoleMeaning.{StandsFor};
-ghost use Rattle.lx_session.specs.Attempts.{ListenedAttempt, heard_of};
-ghost use Rattle.lx_session.specs.LineState.{meaning_of, next_of};
-ghost use Rattle.lx_session.specs.LineProgress.{HasPassed, LineProgress};
-ghost use Rattle.lx_session.specs.LineReply.{TallyHasRoom, HasOneMore};
-ghost use Rattle.lx_session.specs.LineAnswer.{LineAnswer, SparedAnswer, FromDesk};
-ghost use Rattle.lx_session.specs.Spared.{IsAmple};
+ghost use Rattle.lx_session.specs.Imports.{HasSinkCause, Desk, is_quit, DeskState, ValidCommand, ValidLine, StandsFor, ListenedAttempt};
+ghost use Rattle.lx_session.specs.Imports.{heard_of, meaning_of, next_of, HasPassed, LineProgress, TallyHasRoom, HasOneMore, LineAnswer};
+ghost use Rattle.lx_session.specs.Imports.{SparedAnswer, FromDesk, IsAmple};
 
 use crate::finish::{give, put_universe};
 use crate::key::answer_key;

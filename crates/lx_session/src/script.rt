@@ -1,16 +1,10 @@
 //! A session: script lines are read one after another, and each is answered before the next is awaited.
 
 ghost use Rattle.std.specs.Prelude.{◌≡◌, ◌≤◌, Bool, true, IfSome};
+ghost use Rattle.lx_session.specs.Imports.{CanAdvance, SameSource, bytes_taken, source_left, unread, Desk, begun, desk_answering};
+ghost use Rattle.lx_session.specs.Imports.{StandsFor, ScriptAnswered, HasDone, HasStood, IsAmple, MayTake, spared, HasSessionCause};
+ghost use Rattle.lx_session.specs.Imports.{KeepsLimit, HandsOnReplies};
 ghost use Rattle.lx_base.specs.declared.TheConstants.{INPUT_BYTES};
-ghost use Rattle.lx_lex.specs.Unread.{CanAdvance, SameSource, bytes_taken, source_left, unread};
-ghost use Rattle.lx_spec.specs.Desk.{Desk};
-ghost use Rattle.lx_spec.specs.DeskSession.{begun, desk_answering};
-ghost use Rattle.lx_console.specs.ConsoleMeaning.{StandsFor};
-ghost use Rattle.lx_session.specs.ScriptAnswer.{ScriptAnswered};
-ghost use Rattle.lx_session.specs.Listening.{HasDone};
-ghost use Rattle.lx_session.specs.Spared.{HasStood, IsAmple, MayTake, spared};
-ghost use Rattle.lx_session.specs.SessionOutcome.{HasSessionCause, KeepsLimit};
-ghost use Rattle.lx_session.specs.Waits.{HandsOnReplies};
 
 use crate::answers::Answers;
 use crate::beside::AnswersBeside;

@@ -1,15 +1,9 @@
 //! One line of a session: it is taken from the source and answered.
 
 ghost use Rattle.std.specs.Prelude.{◌≡◌, ◌⊎◌, ◌≤◌, List, ℕ, Bool, [], true, false, Some, None, Err, IfOk, OnOk, OnErr, not, option_copied};
-ghost use Rattle.std.specs.Io.KnownBytes.{Keeps};
-ghost use Rattle.lx_io.specs.Puts.{HasSinkCause};
-ghost use Rattle.lx_lex.specs.Unread.{CanAdvance, SameSource, held, has_feed, lines_handed};
-ghost use Rattle.lx_session.specs.LineReply.{TallyHasRoom, HasOneMore, IsUpTo};
-ghost use Rattle.lx_session.specs.LineOutcome.{LineOutcome, ReplyOutcome};
-ghost use Rattle.lx_session.specs.OneAnswer.{IsLine};
-ghost use Rattle.lx_session.specs.Spared.{MayTake, spared};
-ghost use Rattle.lx_session.specs.SessionOutcome.{HasSessionCause};
-ghost use Rattle.lx_session.specs.Waits.{WaitsFlushed};
+ghost use Rattle.lx_session.specs.Imports.{Keeps, HasSinkCause, CanAdvance, SameSource, held, has_feed, lines_handed, TallyHasRoom};
+ghost use Rattle.lx_session.specs.Imports.{HasOneMore, IsUpTo, LineOutcome, ReplyOutcome, IsLine, MayTake, spared, HasSessionCause};
+ghost use Rattle.lx_session.specs.Imports.{WaitsFlushed};
 
 use crate::beside::AnswersBeside;
 use crate::fault::SessionFault;

@@ -4,3 +4,4 @@ pub mod Works
 pub mod Engines
 pub mod Places
 pub mod LiveOutcome
+pub mod Imports

@@ -1,25 +1,12 @@
 //! A live run: the engine, and a worker for each outlet beside it.
 ghost use Rattle.std.specs.Prelude.{◌≡◌, ◌+◌, ◌-◌, ◌<◌, ◌≤◌, ◌⊎◌, [], length, IsSome, IsSomeAnd, IfOk, IfSome, OnErr, vec_len};
 ghost use Rattle.std.specs.Prelude.{vec_capacity, ℕ, Bool, true, false, Some, None, slice_get, slice_set, List};
-ghost use Rattle.std.specs.List.{AllZip};
+ghost use Rattle.lx_workers.specs.Imports.{AllZip, CanAdvance, SameSource, bytes_taken, unread, opened, StandsFor, HasSessionCause};
+ghost use Rattle.lx_workers.specs.Imports.{KeepsLimit, HasStood, HandsOnReplies, Published, IsInStep, EachAt, IsNewTap, Rose, HasRunFrom};
+ghost use Rattle.lx_workers.specs.Imports.{HasServed, IsFull, IsTaken, IsGiven, HasPlayedScript};
 ghost use Rattle.lx_base.specs.declared.TheConstants.{INPUT_BYTES};
 ghost use Rattle.lx_workers.specs.declared.playing.TheConstants.{OUTLETS};
-ghost use Rattle.lx_lex.specs.Unread.{CanAdvance, SameSource, bytes_taken, unread};
-ghost use Rattle.lx_spec.specs.Desk.{opened};
-ghost use Rattle.lx_console.specs.ConsoleMeaning.{StandsFor};
-ghost use Rattle.lx_session.specs.SessionOutcome.{HasSessionCause, KeepsLimit};
-ghost use Rattle.lx_session.specs.Spared.{HasStood};
-ghost use Rattle.lx_session.specs.Waits.{HandsOnReplies};
-ghost use Rattle.lx_gate.specs.Gates.{Published};
-ghost use Rattle.lx_gate.specs.Desks.{IsInStep};
-ghost use Rattle.lx_base.specs.Places.{EachAt};
-ghost use Rattle.lx_gate.specs.Readings.{IsNewTap};
-ghost use Rattle.lx_io.specs.Causes.{Rose};
 ghost use Rattle.lx_io.specs.declared.sink.SinkFault.{SinkFault};
-ghost use Rattle.lx_workers.specs.Engines.{HasRunFrom};
-ghost use Rattle.lx_workers.specs.Works.{HasServed};
-ghost use Rattle.lx_workers.specs.Places.{IsFull, IsTaken, IsGiven};
-ghost use Rattle.lx_workers.specs.LiveOutcome.{HasPlayedScript};
 
 use crate::script::LiveEngine;
 use crate::{Lane, Served, Stop};

@@ -1,12 +1,7 @@
 //! One output worker.
 ghost use Rattle.std.specs.Prelude.{◌≡◌, ◌<◌, ◌≤◌, [], IsTrue, true, false, IfSome, IsSomeAnd, OnOk, Some, None, length};
-ghost use mathlib.Core.List.{IsPrefix};
-ghost use Rattle.lx_io.specs.Causes.{Rose};
-ghost use Rattle.lx_io.specs.Puts.{Puts};
-ghost use Rattle.lx_gate.specs.Frames.{IsFrame};
-ghost use Rattle.lx_gate.specs.Readings.{newest};
-ghost use Rattle.lx_workers.specs.Lines.{stamped_line};
-ghost use Rattle.lx_workers.specs.Works.{HasServed, HasStepped, HasPutNewest, HasLooked};
+ghost use Rattle.lx_workers.specs.Imports.{IsPrefix, Rose, Puts, IsFrame, newest, stamped_line, HasServed, HasStepped, HasPutNewest};
+ghost use Rattle.lx_workers.specs.Imports.{HasLooked};
 
 use crate::Halt;
 use lx_gate::{Port, Stamp, Tap};
