@@ -1,9 +1,23 @@
 //! The console: a player, and the output that shows it.
 
 ghost use Rattle.std.specs.Prelude.{◌≡◌, ◌≢◌, ℕ, ◌-◌, ◌/◌, ◌≤◌, [], None, Err, min, option_map, OnErr, IfOk, IsOkAnd, true};
-ghost use Rattle.lx_console.specs.Imports.{option_copied, HasCause, HasCauseOf, level, position_of, cue_of, tracked, row_of, ValidCommand};
-ghost use Rattle.lx_console.specs.Imports.{may_lack_memory, dimmer_value, fader, frame, Desk, opened, moments_later, IsReady, planned};
-ghost use Rattle.lx_console.specs.Imports.{TakesBack, IsTable, universe, StandsFor, Obeys, Answers, level_now, out_now, after_ticks};
+ghost use Rattle.std.specs.Option.{option_copied};
+ghost use Rattle.lx_io.specs.Causes.{HasCause, HasCauseOf};
+ghost use Rattle.lx_spec.specs.Level.{level};
+ghost use Rattle.lx_spec.specs.Playback.{position_of};
+ghost use Rattle.lx_spec.specs.TrackedLevel.{cue_of, tracked};
+ghost use Rattle.lx_spec.specs.Replies.{row_of};
+ghost use Rattle.lx_spec.specs.ValidEdit.{ValidCommand};
+ghost use Rattle.lx_spec.specs.WantedMemory.{may_lack_memory};
+ghost use Rattle.lx_spec.specs.Output.{dimmer_value, fader, frame};
+ghost use Rattle.lx_spec.specs.Desk.{Desk, opened};
+ghost use Rattle.lx_playback.specs.QuietTicks.{moments_later};
+ghost use Rattle.lx_edit.specs.PlanMeaning.{IsReady, planned};
+ghost use Rattle.lx_edit.specs.Undone.{TakesBack};
+ghost use Rattle.lx_mixer.specs.Table.{IsTable};
+ghost use Rattle.lx_console.specs.Slots.{universe};
+ghost use Rattle.lx_console.specs.ConsoleMeaning.{StandsFor, Obeys, Answers, level_now, out_now};
+ghost use Rattle.lx_console.specs.Ticks.{after_ticks};
 ghost use Rattle.lx_base.specs.declared.TheConstants.{SLOTS, TICK_END, TICK_STEP, UNIVERSES};
 
 use crate::kept_output::KeptOutput;

@@ -2,10 +2,28 @@
 
 ghost use Rattle.std.specs.Prelude.{◌≡◌, ◌≢◌, ℕ, ◌+◌, ◌-◌, ◌/◌, ◌≤◌, [], None, Err, false, length, min, option_map, slice_set, OnOk, OnErr};
 ghost use Rattle.std.specs.Prelude.{IfOk, IfErr, IsOkAnd, IsTrue, IsFalse, true};
-ghost use Rattle.lx_console.specs.Imports.{option_copied, HasCause, HasCauseOf, has_entry, Valid, level, position_of, press, tick, cue_of};
-ghost use Rattle.lx_console.specs.Imports.{tracked, row_of, edited, ValidEdit, ValidCommand, takes_memory, may_lack_memory, contribution};
-ghost use Rattle.lx_console.specs.Imports.{fader, Desk, opened, is_tick, moments_later, IsReady, IsRefusal, planned, TakesBack, IsTable};
-ghost use Rattle.lx_console.specs.Imports.{StandsForSubs, Changes, StandsFor, Obeys, Answers, level_now, after_ticks};
+ghost use Rattle.std.specs.Option.{option_copied};
+ghost use Rattle.lx_io.specs.Causes.{HasCause, HasCauseOf};
+ghost use Rattle.lx_spec.specs.SortedList.{has_entry};
+ghost use Rattle.lx_spec.specs.Show.{Valid};
+ghost use Rattle.lx_spec.specs.Level.{level};
+ghost use Rattle.lx_spec.specs.Playback.{position_of, press, tick};
+ghost use Rattle.lx_spec.specs.TrackedLevel.{cue_of, tracked};
+ghost use Rattle.lx_spec.specs.Replies.{row_of};
+ghost use Rattle.lx_spec.specs.EditedShow.{edited};
+ghost use Rattle.lx_spec.specs.ValidEdit.{ValidEdit, ValidCommand};
+ghost use Rattle.lx_spec.specs.WantedMemory.{takes_memory, may_lack_memory};
+ghost use Rattle.lx_spec.specs.Output.{contribution, fader};
+ghost use Rattle.lx_spec.specs.Desk.{Desk, opened};
+ghost use Rattle.lx_spec.specs.TwoLists.{is_tick};
+ghost use Rattle.lx_playback.specs.QuietTicks.{moments_later};
+ghost use Rattle.lx_edit.specs.PlanMeaning.{IsReady, IsRefusal, planned};
+ghost use Rattle.lx_edit.specs.Undone.{TakesBack};
+ghost use Rattle.lx_mixer.specs.Table.{IsTable};
+ghost use Rattle.lx_subs.specs.Faders.{StandsForSubs};
+ghost use Rattle.lx_console.specs.Changes.{Changes};
+ghost use Rattle.lx_console.specs.ConsoleMeaning.{StandsFor, Obeys, Answers, level_now};
+ghost use Rattle.lx_console.specs.Ticks.{after_ticks};
 ghost use Rattle.lx_base.specs.declared.TheConstants.{TICK_END, TICK_STEP};
 
 use crate::change::Change;

@@ -1,8 +1,11 @@
 //! The engine: it pops the entries of all operators and answers each line.
 
 ghost use Rattle.std.specs.Prelude.{◌≡◌, ◌<◌, ◌≤◌, ◌⊎◌, ℕ, [], length, true, false, slice_get, Some, None};
-ghost use Rattle.lx_crew.specs.Imports.{view, IsPassOf, IsSamePass, TallyHasRoom, HasOneMore, counts_in, is_last, engine_view};
-ghost use Rattle.lx_crew.specs.Imports.{HasServedEntries, Marked, OutputCause, NextEntry};
+ghost use Rattle.crossbeam_queue.specs.Passes.{view, IsPassOf, IsSamePass};
+ghost use Rattle.lx_session.specs.LineReply.{TallyHasRoom, HasOneMore, counts_in};
+ghost use Rattle.lx_crew.specs.Entries.{is_last};
+ghost use Rattle.lx_crew.specs.Rule.{engine_view};
+ghost use Rattle.lx_crew.specs.EngineAnswers.{HasServedEntries, Marked, OutputCause, NextEntry};
 
 use crate::answering::{answer_entry, flush};
 use crate::entry::{Message, Sent};

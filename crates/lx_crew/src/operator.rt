@@ -1,7 +1,10 @@
 //! One operator: it sends the lines of a source that it owns.
 
 ghost use Rattle.std.specs.Prelude.{◌≡◌, ◌+◌, ◌<◌, ◌≤◌, ◌^◌, [], ◌++◌, ◌∷◌, List, length, true, Some};
-ghost use Rattle.lx_crew.specs.Imports.{view, IsPassOf, IsSamePass, CanAdvance, SameSource, operator_view, HasSentLines, TookNext};
+ghost use Rattle.crossbeam_queue.specs.Passes.{view, IsPassOf, IsSamePass};
+ghost use Rattle.lx_lex.specs.Unread.{CanAdvance, SameSource};
+ghost use Rattle.lx_crew.specs.Rule.{operator_view};
+ghost use Rattle.lx_crew.specs.SentLines.{HasSentLines, TookNext};
 
 use crate::entry::{LineText, Message, Sent};
 use crate::fault::OperatorFault;

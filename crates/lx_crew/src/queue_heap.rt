@@ -1,7 +1,9 @@
 //! Where the memory of a crew's queue comes from.
 
 ghost use Rattle.std.specs.Prelude.{◌≡◌, [], IfOk};
-ghost use Rattle.lx_crew.specs.Imports.{view, IsPassOf, HasCause, engine_view};
+ghost use Rattle.crossbeam_queue.specs.Passes.{view, IsPassOf};
+ghost use Rattle.lx_io.specs.Causes.{HasCause};
+ghost use Rattle.lx_crew.specs.Rule.{engine_view};
 
 use crate::entry::Message;
 use crate::rule::{Queue, View};

@@ -1,6 +1,5 @@
 -- What the contracts import, of this crate and of others. Nothing is defined here.
 pub use Rattle.std.specs.Result.{IsErr, IsOkAnd}
-pub use Rattle.std.specs.Io.KnownBytes.{WriteAppends, Keeps}
 pub use Rattle.lx_io.specs.Causes.{HasCauseOf, Rose, HasCause}
 pub use Rattle.lx_spec.specs.Desk.{Desk, step}
 pub use Rattle.lx_spec.specs.Output.{fader, frame}
@@ -12,7 +11,6 @@ pub use Rattle.lx_spec.specs.Undo.{UndoState}
 pub use Rattle.lx_spec.specs.DeskSession.{begun, desk_answering}
 pub use Rattle.lx_spec.specs.UndoSession.{undo_answering}
 pub use Rattle.lx_undo.specs.UndoDeskMeaning.{UndoStands}
-pub use Rattle.lx_io.specs.SinkCalls.{HasSinkCauseBy}
 pub use Rattle.lx_console.specs.Ticks.{after_ticks}
 pub use Rattle.lx_embed.specs.Answered.{Answered, AnswersLine, is_bare}
 pub use Rattle.lx_embed.specs.Engines.{console_of, OpenedAs}

@@ -2,7 +2,9 @@
 #![tactic(auto, using(lx_io::proofs::Chain::puts))]
 
 ghost use Rattle.std.specs.Prelude.{◌≡◌, ◌≤◌, ◌<◌, ◌+◌, ◌^◌, ◌++◌, [], Some, length, IsOk, IfOk, OnOk};
-ghost use Rattle.lx_embed.specs.Imports.{WriteAppends, Keeps, HasCause, HasSinkCauseBy};
+ghost use Rattle.std.specs.Io.KnownBytes.{WriteAppends, Keeps};
+ghost use Rattle.lx_io.specs.Causes.{HasCause};
+ghost use Rattle.lx_io.specs.SinkCalls.{HasSinkCauseBy};
 
 use lx_io::{Heap, Sink, SinkFault, SystemHeap, TEXT_ROOM, Text, write_behind};
 use std::alloc::{AllocError, Global};

@@ -6,4 +6,3 @@ pub mod Readings
 pub mod Notes
 pub mod Gates
 pub mod Desks
-pub mod Imports

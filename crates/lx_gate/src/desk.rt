@@ -1,6 +1,8 @@
 //! The gate beside the console whose frames it publishes.
 ghost use Rattle.std.specs.Prelude.{OnOk, OnErr};
-ghost use Rattle.lx_gate.specs.Imports.{HasCause, IsInStep, HasSent, HasSentNone};
+ghost use Rattle.lx_io.specs.Causes.{HasCause};
+ghost use Rattle.lx_gate.specs.Desks.{IsInStep};
+ghost use Rattle.lx_gate.specs.Gates.{HasSent, HasSentNone};
 
 use crate::{Gate, GateWriter, Origin, Unsent, WriterHeap};
 use lx_console::Console;

@@ -1,7 +1,10 @@
 //! The gate: it publishes versions, and ends by `close`.
 ghost use Rattle.std.specs.Prelude.{◌≡◌, ◌+◌, ◌-◌, ◌<◌, ◌≤◌, ◌^◌, ◌++◌, List, [], length, IsSomeAnd, OnOk, OnErr, drop};
-ghost use Rattle.lx_gate.specs.Imports.{HasCause, Show, AreFramesOf, moment_after, IsVersion, IsAtRest, IsEntered, StillRests, HasSent};
-ghost use Rattle.lx_gate.specs.Imports.{HasSentNone, IsNoteOf, commands_of_note};
+ghost use Rattle.lx_io.specs.Causes.{HasCause};
+ghost use Rattle.lx_spec.specs.Show.{Show};
+ghost use Rattle.lx_gate.specs.Frames.{AreFramesOf, moment_after, IsVersion};
+ghost use Rattle.lx_gate.specs.Gates.{IsAtRest, IsEntered, StillRests, HasSent, HasSentNone};
+ghost use Rattle.lx_gate.specs.Notes.{IsNoteOf, commands_of_note};
 ghost use Rattle.lx_base.specs.declared.TheConstants.{SLOTS};
 ghost use Rattle.lx_spec.specs.declared.Command.{Command};
 

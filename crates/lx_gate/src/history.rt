@@ -1,6 +1,8 @@
 //! The history: all commands that were entered, in order. It exists in proofs alone, and only grows.
 ghost use Rattle.std.specs.Prelude.{◌≡◌, ◌+◌, ◌-◌, ◌<◌, ◌≤◌, ◌^◌, ◌++◌, ◌↔◌, ◌⊎◌, [], length, drop, IsTrue, MatchBool};
-ghost use Rattle.lx_gate.specs.Imports.{IsPrefix, head_of, longest, IsChained, IsLonger, flat};
+ghost use mathlib.Core.List.{IsPrefix};
+ghost use Rattle.lx_gate.specs.Histories.{head_of};
+ghost use Rattle.lx_gate.specs.CommandLists.{longest, IsChained, IsLonger, flat};
 
 use crate::{Origin, Unsent};
 use logbook::{Gain, Offer, Plain, Play, Rule, Seen, Start, Word};

@@ -1,6 +1,7 @@
 //! What a gate was opened over.
 ghost use Rattle.std.specs.Prelude.{[]};
-ghost use Rattle.lx_gate.specs.Imports.{Show, Book};
+ghost use Rattle.lx_spec.specs.Show.{Show};
+ghost use Rattle.logbook.specs.Pages.{Book};
 
 use std::marker::Brand;
 

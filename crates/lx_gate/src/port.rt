@@ -1,7 +1,13 @@
 //! What a tap reads from.
 ghost use Rattle.std.specs.Prelude.{◌≡◌, ◌≤◌, ◌-◌, ◌*◌, ◌⊎◌, ℕ, List, None, IfSome, MatchOption, slice_range, [], IsTrue};
-ghost use Rattle.lx_gate.specs.Imports.{IsPrefix, Rose, IsVersion, IsFrame, IsChained, longest, IsNoteOf, commands_of_note, Show, Book};
-ghost use Rattle.lx_gate.specs.Imports.{IsReading, Told, HasMissed, HasLearnt};
+ghost use mathlib.Core.List.{IsPrefix};
+ghost use Rattle.lx_io.specs.Causes.{Rose};
+ghost use Rattle.lx_gate.specs.Frames.{IsVersion, IsFrame};
+ghost use Rattle.lx_gate.specs.CommandLists.{IsChained, longest};
+ghost use Rattle.lx_gate.specs.Notes.{IsNoteOf, commands_of_note};
+ghost use Rattle.lx_spec.specs.Show.{Show};
+ghost use Rattle.logbook.specs.Pages.{Book};
+ghost use Rattle.lx_gate.specs.Readings.{IsReading, Told, HasMissed, HasLearnt};
 ghost use Rattle.lx_base.specs.declared.TheConstants.{UNIVERSES};
 ghost use Rattle.lx_spec.specs.declared.Command.{Command};
 

@@ -1,6 +1,10 @@
 //! The start of a gate.
 ghost use Rattle.std.specs.Prelude.{◌≡◌, ◌+◌, ◌≤◌, ◌⊎◌, [], replicate, IfOk, OnErr, vec_len, vec_capacity};
-ghost use Rattle.lx_gate.specs.Imports.{Rose, Valid, Published, EachAt, IsNewTap};
+ghost use Rattle.lx_io.specs.Causes.{Rose};
+ghost use Rattle.lx_spec.specs.Show.{Valid};
+ghost use Rattle.lx_gate.specs.Gates.{Published};
+ghost use Rattle.lx_base.specs.Places.{EachAt};
+ghost use Rattle.lx_gate.specs.Readings.{IsNewTap};
 ghost use Rattle.lx_base.specs.declared.TheConstants.{SLOTS, UNIVERSES};
 
 use crate::{

@@ -1,7 +1,10 @@
 //! A tap: the slots of one universe, of a version that is never older than what it had.
 ghost use Rattle.std.specs.Prelude.{◌≡◌, ◌≤◌, ◌-◌, ◌*◌, ◌⊎◌, List, [], replicate, slice_range};
-ghost use Rattle.lx_gate.specs.Imports.{IsPrefix, IsChained, IsFrame, IsNoteOf, commands_of_note, KeepsLater, Told, newest, HasReadOn};
-ghost use Rattle.lx_gate.specs.Imports.{HasMissed, HasLearnt};
+ghost use mathlib.Core.List.{IsPrefix};
+ghost use Rattle.lx_gate.specs.CommandLists.{IsChained};
+ghost use Rattle.lx_gate.specs.Frames.{IsFrame};
+ghost use Rattle.lx_gate.specs.Notes.{IsNoteOf, commands_of_note, KeepsLater};
+ghost use Rattle.lx_gate.specs.Readings.{Told, newest, HasReadOn, HasMissed, HasLearnt};
 ghost use Rattle.lx_base.specs.declared.TheConstants.{UNIVERSES};
 
 use crate::{Note, Port, Stamp};

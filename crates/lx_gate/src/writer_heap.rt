@@ -1,6 +1,7 @@
 //! Where the memory of a gate's writer comes from.
 ghost use Rattle.std.specs.Prelude.{◌≡◌, ◌≤◌, ◌<◌, ◌^◌, [], ◌∷◌, ◌++◌, IfOk, MatchResult, drop};
-ghost use Rattle.lx_gate.specs.Imports.{HasCause, one_more, IsVersion};
+ghost use Rattle.lx_io.specs.Causes.{HasCause, one_more};
+ghost use Rattle.lx_gate.specs.Frames.{IsVersion};
 
 use crate::{Commit, GateWriter, Origin, Version};
 use left_right::writer::Writer;

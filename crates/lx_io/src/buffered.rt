@@ -2,7 +2,10 @@
 #![tactic(auto, using(crate::proofs::Chain::puts))]
 
 ghost use Rattle.std.specs.Prelude.{◌≡◌, ◌≤◌, ◌+◌, ◌-◌, ◌++◌, [], length, take, slice_range, IfOk, MatchBool, OnOk};
-ghost use Rattle.lx_io.specs.Imports.{OnTrue, Appends, Keeps, HasSinkCause, Puts, HasSinkCauseBy, PutsBy};
+ghost use Rattle.std.specs.Bool.{OnTrue};
+ghost use Rattle.std.specs.Io.KnownBytes.{Appends, Keeps};
+ghost use Rattle.lx_io.specs.Puts.{HasSinkCause, Puts};
+ghost use Rattle.lx_io.specs.SinkCalls.{HasSinkCauseBy, PutsBy};
 
 use crate::room::write_behind;
 use crate::{Sink, SinkFault, TEXT_ROOM, Text};

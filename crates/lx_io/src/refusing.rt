@@ -1,7 +1,8 @@
 //! A heap for tests, whose calls are refused where it is told to.
 
 ghost use Rattle.std.specs.Prelude.{◌≡◌, ◌≤◌, ◌<◌, ◌+◌, ◌↔◌, [], OnOk, OnErr, IfOk, IsOk, IsErr, IsTrue, vec_len, vec_capacity};
-ghost use Rattle.lx_io.specs.Imports.{HasCause, one_more, is_failing, after_want};
+ghost use Rattle.lx_io.specs.Causes.{HasCause, one_more};
+ghost use Rattle.lx_io.specs.Memory.{is_failing, after_want};
 
 use crate::Heap;
 use std::alloc::{AllocError, Global};

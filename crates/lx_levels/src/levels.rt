@@ -2,9 +2,18 @@
 
 ghost use Rattle.std.specs.Prelude.{◌≡◌, ◌≢◌, ℕ, ◌+◌, ◌-◌, ◌<◌, ◌≤◌, [], ◌∷◌, true, false, List, length, slice_index, slice_set, IfOk};
 ghost use Rattle.std.specs.Prelude.{IfSome};
-ghost use Rattle.lx_levels.specs.Imports.{option_copied, option_map_or, HasCause, Valid, level, last_cue, at_opening, RowsStandFor};
-ghost use Rattle.lx_levels.specs.Imports.{IsTable, ValidRun, stack_level, level_at, kept_stack, AreAt, IsStill, IsValid, act_over};
-ghost use Rattle.lx_levels.specs.Imports.{LevelsStandFor, StackStandsAt, StandsBefore, IsElsewhere};
+ghost use Rattle.std.specs.Option.{option_copied, option_map_or};
+ghost use Rattle.lx_io.specs.Causes.{HasCause};
+ghost use Rattle.lx_spec.specs.Show.{Valid};
+ghost use Rattle.lx_spec.specs.Level.{level, last_cue};
+ghost use Rattle.lx_spec.specs.Playback.{at_opening};
+ghost use Rattle.lx_sheet.specs.SheetMeaning.{RowsStandFor};
+ghost use Rattle.lx_mixer.specs.Table.{IsTable};
+ghost use Rattle.lx_playback.specs.Valid.{ValidRun};
+ghost use Rattle.lx_levels.specs.Stacks.{stack_level, level_at, kept_stack};
+ghost use Rattle.lx_levels.specs.CurrentFades.{AreAt, IsStill};
+ghost use Rattle.lx_levels.specs.Acts.{IsValid, act_over};
+ghost use Rattle.lx_levels.specs.LevelsMeaning.{LevelsStandFor, StackStandsAt, StandsBefore, IsElsewhere};
 ghost use Rattle.lx_base.specs.declared.TheConstants.{RUNS, LANES, TICK_END};
 ghost use Rattle.lx_spec.specs.Show.{Show as ShowData};
 ghost use Rattle.lx_spec.specs.Run.{Run as RunData};

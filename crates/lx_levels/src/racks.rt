@@ -2,7 +2,12 @@
 
 ghost use Rattle.std.specs.Prelude.{◌≡◌, ◌≢◌, ℕ, ◌+◌, ◌-◌, ◌*◌, ◌<◌, ◌≤◌, [], ◌∷◌, List, drop, length, slice_index_or, slice_set};
 ghost use Rattle.std.specs.Prelude.{vec_capacity, IfOk};
-ghost use Rattle.lx_levels.specs.Imports.{All, HasCause, fade_over, stack_level, no_stack, Governs, stack_column};
+ghost use Rattle.std.specs.List.{All};
+ghost use Rattle.lx_io.specs.Causes.{HasCause};
+ghost use Rattle.lx_spec.specs.Level.{fade_over};
+ghost use Rattle.lx_levels.specs.Stacks.{stack_level, no_stack};
+ghost use Rattle.lx_levels.specs.CurrentFades.{Governs};
+ghost use Rattle.lx_fade.specs.Row.{stack_column};
 ghost use Rattle.lx_base.specs.declared.TheConstants.{CHANNELS, RUNS, TIME_MAX};
 ghost use Rattle.lx_fade.specs.declared.held.TheConstants.{NEVER};
 

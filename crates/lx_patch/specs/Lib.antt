@@ -1,4 +1,3 @@
 pub mod DimmerTable
 pub mod Slots
 pub mod FollowerChains
-pub mod Imports

@@ -1,7 +1,9 @@
 //! Which dimmers follow each channel.
 
 ghost use Rattle.std.specs.Prelude.{◌≡◌, ◌≢◌, ℕ, ◌<◌, ◌≤◌, ◌+◌, length, slice_index, IfOk};
-ghost use Rattle.lx_patch.specs.Imports.{HasCause, scaled, FollowsChannel, IsLinked, AreDarkFrom};
+ghost use Rattle.lx_io.specs.Causes.{HasCause};
+ghost use Rattle.lx_base.specs.Numbers.{scaled};
+ghost use Rattle.lx_patch.specs.FollowerChains.{FollowsChannel, IsLinked, AreDarkFrom};
 ghost use Rattle.lx_base.specs.declared.TheConstants.{CHANNELS, SLOTS};
 
 use lx_base::{CHANNELS, LANES, Level, SLOTS, scale};

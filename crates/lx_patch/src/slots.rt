@@ -1,7 +1,9 @@
 //! Slots, each from the output at its place.
 
 ghost use Rattle.std.specs.Prelude.{◌≡◌, ◌≤◌, ◌<◌, ◌+◌, ℕ, IsTrue, length, slice_index, EachIndex};
-ghost use Rattle.lx_patch.specs.Imports.{scaled, HasLanes, AreSlots, AreInARow};
+ghost use Rattle.lx_base.specs.Numbers.{scaled};
+ghost use Rattle.lx_base.specs.Rows.{HasLanes};
+ghost use Rattle.lx_patch.specs.Slots.{AreSlots, AreInARow};
 
 use lx_base::{LANES, Level, scale, scale_lanes};
 use std::simd::prelude::*;

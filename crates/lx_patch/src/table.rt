@@ -1,7 +1,12 @@
 //! A table of the patch.
 
 ghost use Rattle.std.specs.Prelude.{◌≡◌, ◌-◌, ◌≤◌, List, length, slice_index, IfOk};
-ghost use Rattle.lx_patch.specs.Imports.{HasCause, placed, taken_out, dimmer_value, IsTable, StandsForPatch, ReachTable, AreSlots};
+ghost use Rattle.lx_io.specs.Causes.{HasCause};
+ghost use Rattle.lx_spec.specs.SortedList.{placed, taken_out};
+ghost use Rattle.lx_spec.specs.Output.{dimmer_value};
+ghost use Rattle.lx_mixer.specs.Table.{IsTable};
+ghost use Rattle.lx_patch.specs.DimmerTable.{StandsForPatch, ReachTable};
+ghost use Rattle.lx_patch.specs.Slots.{AreSlots};
 ghost use Rattle.lx_base.specs.declared.TheConstants.{CHANNELS, SLOTS};
 ghost use Rattle.lx_spec.specs.declared.PatchRow.{PatchRow as Row};
 

@@ -1,7 +1,9 @@
 //! The channel and the level of each dimmer.
 
 ghost use Rattle.std.specs.Prelude.{◌≡◌, ◌<◌, ℕ, List, length, slice_index};
-ghost use Rattle.lx_patch.specs.Imports.{HasCause, placed, taken_out, StandsForPatch};
+ghost use Rattle.lx_io.specs.Causes.{HasCause};
+ghost use Rattle.lx_spec.specs.SortedList.{placed, taken_out};
+ghost use Rattle.lx_patch.specs.DimmerTable.{StandsForPatch};
 ghost use Rattle.lx_base.specs.declared.TheConstants.{CHANNELS, SLOTS};
 ghost use Rattle.lx_spec.specs.declared.PatchRow.{PatchRow as Row};
 

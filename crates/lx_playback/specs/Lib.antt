@@ -1,4 +1,3 @@
 pub mod Valid
 pub mod Told
 pub mod QuietTicks
-pub mod Imports

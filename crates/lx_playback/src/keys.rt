@@ -2,8 +2,12 @@
 
 ghost use Rattle.std.specs.Prelude.{◌≡◌, ◌↔◌, ◌+◌, ◌<◌, ◌≤◌, false, length, Ok, Err, Some, None, is_none, option_map, IfOk, IfErr, OnErr};
 ghost use Rattle.std.specs.Prelude.{IfSome, IsTrue};
-ghost use Rattle.lx_playback.specs.Imports.{AllByRecursion, IsSomeAnd, has_entry, IsTime, ValidPart, press, appended, run_of, run_whole};
-ghost use Rattle.lx_playback.specs.Imports.{follow_of, at_rest, run_made};
+ghost use Rattle.std.specs.List.{AllByRecursion};
+ghost use Rattle.std.specs.Option.{IsSomeAnd};
+ghost use Rattle.lx_spec.specs.SortedList.{has_entry};
+ghost use Rattle.lx_spec.specs.Show.{IsTime, ValidPart};
+ghost use Rattle.lx_spec.specs.Playback.{press, appended, run_of, run_whole, follow_of, at_rest};
+ghost use Rattle.lx_playback.specs.Told.{run_made};
 ghost use Rattle.lx_base.specs.declared.TheConstants.{RUNS, TICK_END, BACK_TIME};
 
 use crate::playback::Playback;

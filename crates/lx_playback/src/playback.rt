@@ -2,8 +2,12 @@
 
 ghost use Rattle.std.specs.Prelude.{◌≡◌, ℕ, ◌+◌, ◌-◌, ◌/◌, ◌<◌, ◌≤◌, ◌==◌, [], ◌∷◌, None, min, not, reverse, length, nat_le, IfOk, IsTrue};
 ghost use Rattle.std.specs.Prelude.{IsFalse};
-ghost use Rattle.lx_playback.specs.Imports.{All, list_all, HasCause, extent, at_opening, position_of, has_room, is_over, is_due, at_rest};
-ghost use Rattle.lx_playback.specs.Imports.{moments_later, TicksPass, IsStillAt, OldestFirst, ValidPlayback, ValidRun};
+ghost use Rattle.std.specs.List.{All, list_all};
+ghost use Rattle.lx_io.specs.Causes.{HasCause};
+ghost use Rattle.lx_spec.specs.Run.{extent};
+ghost use Rattle.lx_spec.specs.Playback.{at_opening, position_of, has_room, is_over, is_due, at_rest};
+ghost use Rattle.lx_playback.specs.QuietTicks.{moments_later, TicksPass, IsStillAt};
+ghost use Rattle.lx_playback.specs.Valid.{OldestFirst, ValidPlayback, ValidRun};
 ghost use Rattle.lx_base.specs.declared.TheConstants.{TICK_END, TICK_STEP};
 
 use crate::run::Run;

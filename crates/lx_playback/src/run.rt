@@ -1,7 +1,11 @@
 //! A run of a cue.
 
 ghost use Rattle.std.specs.Prelude.{◌≡◌, ◌+◌, ◌*◌, ◌≤◌, map, IsTrue};
-ghost use Rattle.lx_playback.specs.Imports.{AllByRecursion, IsTime, captured, extent, entry_extent, one_entry, ValidTimes};
+ghost use Rattle.std.specs.List.{AllByRecursion};
+ghost use Rattle.lx_spec.specs.Show.{IsTime};
+ghost use Rattle.lx_spec.specs.Run.{captured, extent, entry_extent};
+ghost use Rattle.lx_spec.specs.Playback.{one_entry};
+ghost use Rattle.lx_playback.specs.Valid.{ValidTimes};
 ghost use Rattle.lx_base.specs.declared.TheConstants.{TIME_MAX};
 
 use arrayvec::ArrayVec;

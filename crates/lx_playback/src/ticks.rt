@@ -1,7 +1,8 @@
 //! Ticks: the moment grows, a follow may fire, and the playback may come to rest.
 
 ghost use Rattle.std.specs.Prelude.{◌≡◌, Ok, Err, IfOk, IfErr, OnErr};
-ghost use Rattle.lx_playback.specs.Imports.{tick, start_above, followed, is_over, rested, comes_to_rest};
+ghost use Rattle.lx_spec.specs.Playback.{tick, start_above, followed, is_over, rested};
+ghost use Rattle.lx_playback.specs.Told.{comes_to_rest};
 
 use crate::playback::Playback;
 use crate::run::Run;

@@ -2,8 +2,15 @@
 
 ghost use Rattle.std.specs.Prelude.{◌≡◌, ◌≤◌, ℕ, ◌<◌, ◌+◌, ◌++◌, ◌∷◌, [], Err, false, true, is_some, length, max, slice_get, take};
 ghost use Rattle.std.specs.Prelude.{if◌then◌else◌, IfOk, IfErr, IfSome, OnOk, vec_capacity};
-ghost use Rattle.lx_reader.specs.Imports.{AllByRecursion, option_map_or, HasCause, HasCauseOf, ValidMember, IsStrictlySorted, all_placed};
-ghost use Rattle.lx_reader.specs.Imports.{placed, left, all_pairs, IsFaultOf, ReadsLevels, members_of, moves_there};
+ghost use Rattle.std.specs.List.{AllByRecursion};
+ghost use Rattle.std.specs.Option.{option_map_or};
+ghost use Rattle.lx_io.specs.Causes.{HasCause, HasCauseOf};
+ghost use Rattle.lx_spec.specs.Show.{ValidMember};
+ghost use Rattle.lx_spec.specs.SortedList.{IsStrictlySorted, all_placed, placed};
+ghost use Rattle.lx_lex.specs.Left.{left};
+ghost use Rattle.lx_reader.specs.FieldLists.{all_pairs};
+ghost use Rattle.lx_reader.specs.LineFaults.{IsFaultOf};
+ghost use Rattle.lx_reader.specs.OpenMoves.{ReadsLevels, members_of, moves_there};
 ghost use Rattle.lx_base.specs.declared.TheConstants.{CHANNELS};
 
 use crate::fault::ShowFault;

@@ -2,7 +2,7 @@
 pub use Rattle.std.specs.Option.{option_map_or}
 pub use Rattle.std.specs.Str.{str_to_ascii_uppercase}
 pub use Rattle.lx_io.specs.Puts.{Puts}
-pub use Rattle.lx_spec.specs.Replies.{cells, frame_text, refused_text}
+pub use Rattle.lx_spec.specs.Replies.{frame_text, refused_text}
 pub use Rattle.lx_spec.specs.Script.{edit, cue_edit, part_edit, delete_line, set_line, set_channels, set_group, release_line, time_line}
 pub use Rattle.lx_spec.specs.Script.{time_edit, follow_line, label_line, group_line, sub_line, patch_line, unpatch_line, fader_line}
 pub use Rattle.lx_spec.specs.Script.{master_line, goto_line, tick_line, frame_line, sheet_line, line_of, meaning, cue_number, time}
@@ -16,7 +16,6 @@ pub use Rattle.lx_spec.specs.Numerals.{read_whole, read_level, read_time}
 pub use Rattle.lx_spec.specs.ShowText.{cue_number_text}
 pub use Rattle.lx_spec.specs.TwoLists.{where_of_second, is_of_second, commands_second}
 pub use Rattle.lx_spec.specs.UndoSession.{undo_meaning, record_line, undo_fault_text}
-pub use Rattle.lx_script.specs.Cells.{cell_text, cells_from}
 pub use Rattle.lx_script.specs.FirstWords.{first_words, sentence_of}
 pub use Rattle.lx_script.specs.ReplyTexts.{count_words, reply_text}
 pub use Rattle.lx_script.specs.LoneKeys.{lone_key}

@@ -2,7 +2,9 @@
 #![tactic(auto, using(lx_io::proofs::Chain::puts))]
 
 ghost use Rattle.std.specs.Prelude.{◌≡◌, ◌==◌, if◌then◌else◌, ℕ, ◌+◌, ◌*◌, ◌<◌, ◌≤◌, ◌^◌, ◌++◌, ◌∷◌, length, take, decimal, flat_map};
-ghost use Rattle.lx_script.specs.Imports.{Puts, cells, cell_text, cells_from};
+ghost use Rattle.lx_io.specs.Puts.{Puts};
+ghost use Rattle.lx_spec.specs.Replies.{cells};
+ghost use Rattle.lx_script.specs.Cells.{cell_text, cells_from};
 ghost use Rattle.lx_script.specs.declared.cells.TheConstants.{NEAR, PIECE_CELLS};
 
 use crate::rows::{COUNTS, LEVELS, NUMBERS, PAIRS};

@@ -1,8 +1,11 @@
 //! What answers the lines of a script.
 
 ghost use Rattle.std.specs.Prelude.{◌≡◌, ◌≤◌, List, ℕ, Bool, true, IfOk, not, option_copied};
-ghost use Rattle.lx_session.specs.Imports.{HasSinkCause, Session, Answering, ends_script, TallyHasRoom, HasOneMore, counts_in, IsLine};
-ghost use Rattle.lx_session.specs.Imports.{IsLawful, OneAnswer, HasStood, spared};
+ghost use Rattle.lx_io.specs.Puts.{HasSinkCause};
+ghost use Rattle.lx_spec.specs.Session.{Session, Answering, ends_script};
+ghost use Rattle.lx_session.specs.LineReply.{TallyHasRoom, HasOneMore, counts_in};
+ghost use Rattle.lx_session.specs.OneAnswer.{IsLine, IsLawful, OneAnswer};
+ghost use Rattle.lx_session.specs.Spared.{HasStood, spared};
 
 use crate::tally::Tally;
 use lx_io::{Heap, Sink, SinkFault};

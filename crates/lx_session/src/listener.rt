@@ -1,7 +1,8 @@
 //! What listens to a session: it may refuse to admit a command, and hears of each that is accepted.
 
 ghost use Rattle.std.specs.Prelude.{◌≡◌, ◌++◌, ◌∷◌, [], Bool, true, false, List};
-ghost use Rattle.lx_session.specs.Imports.{Kept, AcceptedStep};
+ghost use Rattle.lx_spec.specs.Kept.{Kept};
+ghost use Rattle.lx_session.specs.Attempts.{AcceptedStep};
 ghost use Rattle.lx_spec.specs.declared.Command.{Command};
 
 use lx_console::Console;

@@ -1,8 +1,17 @@
 //! One script line on its way: its commands are attempted one after another.
 
 ghost use Rattle.std.specs.Prelude.{◌≡◌, ◌≢◌, ◌-◌, ◌<◌, ◌≤◌, true, false, Some, is_some, is_none, option_copied, IsOkAnd, IsTrue, IfSome};
-ghost use Rattle.lx_session.specs.Imports.{Desk, line_of, command_of, count_of, where_of_second, InRange, ValidCommand, ValidLine};
-ghost use Rattle.lx_session.specs.Imports.{StandsFor, after_ticks, unattempted, meaning_of, next_of, frame_of, Attempted, IsAmple};
+ghost use Rattle.lx_spec.specs.Desk.{Desk};
+ghost use Rattle.lx_spec.specs.Script.{line_of};
+ghost use Rattle.lx_spec.specs.DeskSession.{command_of, count_of};
+ghost use Rattle.lx_spec.specs.TwoLists.{where_of_second};
+ghost use Rattle.lx_spec.specs.Show.{InRange};
+ghost use Rattle.lx_spec.specs.ValidEdit.{ValidCommand, ValidLine};
+ghost use Rattle.lx_console.specs.ConsoleMeaning.{StandsFor};
+ghost use Rattle.lx_console.specs.Ticks.{after_ticks};
+ghost use Rattle.lx_session.specs.LineState.{unattempted, meaning_of, next_of, frame_of};
+ghost use Rattle.lx_session.specs.Attempts.{Attempted};
+ghost use Rattle.lx_session.specs.Spared.{IsAmple};
 ghost use Rattle.lx_base.specs.declared.TheConstants.{UNIVERSES};
 
 use lx_console::Console;

@@ -1,8 +1,14 @@
 //! A sheet, and what it tells.
 
 ghost use Rattle.std.specs.Prelude.{◌≡◌, ℕ, ◌+◌, ◌<◌, None, IfOk, IfSome, length, option_map, slice_index};
-ghost use Rattle.lx_sheet.specs.Imports.{option_copied, HasCause, IsStrictlySorted, cue_of, tracked, row_of, entries_up_to, row_at};
-ghost use Rattle.lx_sheet.specs.Imports.{level_of, RowsStandFor};
+ghost use Rattle.std.specs.Option.{option_copied};
+ghost use Rattle.lx_io.specs.Causes.{HasCause};
+ghost use Rattle.lx_spec.specs.SortedList.{IsStrictlySorted};
+ghost use Rattle.lx_spec.specs.TrackedLevel.{cue_of, tracked};
+ghost use Rattle.lx_spec.specs.Replies.{row_of};
+ghost use Rattle.lx_show.specs.Around.{entries_up_to};
+ghost use Rattle.lx_sheet.specs.Rows.{row_at, level_of};
+ghost use Rattle.lx_sheet.specs.SheetMeaning.{RowsStandFor};
 ghost use Rattle.lx_spec.specs.Show.{Show as ShowData};
 
 use crate::block::{ROW_GAP, level_before, own_row};

@@ -1,7 +1,9 @@
 //! Channels with levels under one number: groups and submasters.
 
 ghost use Rattle.std.specs.Prelude.{◌≡◌, ℕ, [], None, OnOk, OnErr, IfOk};
-ghost use Rattle.lx_show.specs.Imports.{HasCause, entry_at, placed, ValidGroup, ValidSub};
+ghost use Rattle.lx_io.specs.Causes.{HasCause};
+ghost use Rattle.lx_spec.specs.SortedList.{entry_at, placed};
+ghost use Rattle.lx_spec.specs.Show.{ValidGroup, ValidSub};
 
 use crate::list::{Copied, SortedList};
 use crate::sorted::Keyed;

@@ -2,8 +2,7 @@
 pub use Rattle.std.specs.List.{AllZip}
 pub use Rattle.lx_gate.specs.Desks.{IsInStep}
 pub use mathlib.Core.List.{IsPrefix}
-pub use Rattle.lx_gate.specs.Notes.{IsNoteOf, commands_of_note}
-pub use Rattle.lx_gate.specs.Readings.{Tapped, IsNewTap, newest}
+pub use Rattle.lx_gate.specs.Readings.{IsNewTap, newest}
 pub use Rattle.lx_lex.specs.Unread.{CanAdvance, SameSource, bytes_taken, unread}
 pub use Rattle.lx_spec.specs.Desk.{opened}
 pub use Rattle.lx_console.specs.ConsoleMeaning.{StandsFor}
@@ -15,8 +14,8 @@ pub use Rattle.lx_base.specs.Places.{EachAt}
 pub use Rattle.lx_io.specs.Causes.{Rose}
 pub use Rattle.lx_io.specs.Puts.{Puts}
 pub use Rattle.lx_gate.specs.Frames.{IsFrame}
-pub use Rattle.lx_workers.specs.Engines.{accepted_of, HasAccepted, leaves_room, SendsAll, HasRunFrom, HasRun}
-pub use Rattle.lx_workers.specs.Works.{HasServed, Delivered, HasStepped, HasPutNewest, HasLooked}
+pub use Rattle.lx_workers.specs.Engines.{HasRunFrom}
+pub use Rattle.lx_workers.specs.Works.{HasServed, HasStepped, HasPutNewest, HasLooked}
 pub use Rattle.lx_workers.specs.Places.{IsFull, IsTaken, IsGiven}
 pub use Rattle.lx_workers.specs.LiveOutcome.{HasPlayedScript}
 pub use Rattle.lx_workers.specs.Lines.{stamped_line}

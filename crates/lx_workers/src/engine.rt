@@ -1,6 +1,7 @@
 //! The engine's listener: each command that a session accepts is published, in order.
 ghost use Rattle.std.specs.Prelude.{◌≡◌, ◌++◌, ℕ};
-ghost use Rattle.lx_workers.specs.Imports.{IsInStep, accepted_of, HasAccepted, leaves_room, SendsAll};
+ghost use Rattle.lx_gate.specs.Desks.{IsInStep};
+ghost use Rattle.lx_workers.specs.Engines.{accepted_of, HasAccepted, leaves_room, SendsAll};
 
 use crate::Stop;
 use lx_console::Console;

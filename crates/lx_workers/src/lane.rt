@@ -1,6 +1,9 @@
 //! What a worker owns while it runs, and how it ended.
 ghost use Rattle.std.specs.Prelude.{◌≡◌, IsSome};
-ghost use Rattle.lx_workers.specs.Imports.{IsPrefix, IsNoteOf, commands_of_note, Tapped, HasServed, Delivered};
+ghost use mathlib.Core.List.{IsPrefix};
+ghost use Rattle.lx_gate.specs.Notes.{IsNoteOf, commands_of_note};
+ghost use Rattle.lx_gate.specs.Readings.{Tapped};
+ghost use Rattle.lx_workers.specs.Works.{HasServed, Delivered};
 
 use crate::worker::put_newest;
 use crate::{Served, Stop, serve};

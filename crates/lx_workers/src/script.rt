@@ -1,6 +1,8 @@
 //! The engine as a work: a session whose accepted commands are published, and then the stop.
 ghost use Rattle.std.specs.Prelude.{◌≡◌, ◌≤◌, [], IsSomeAnd};
-ghost use Rattle.lx_workers.specs.Imports.{CanAdvance, bytes_taken, IsInStep, HasRun, HasRunFrom};
+ghost use Rattle.lx_lex.specs.Unread.{CanAdvance, bytes_taken};
+ghost use Rattle.lx_gate.specs.Desks.{IsInStep};
+ghost use Rattle.lx_workers.specs.Engines.{HasRun, HasRunFrom};
 ghost use Rattle.lx_base.specs.declared.TheConstants.{INPUT_BYTES};
 
 use crate::Stop;

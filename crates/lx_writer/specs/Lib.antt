@@ -1,2 +1,1 @@
 pub mod ShiftedLines
-pub mod Imports

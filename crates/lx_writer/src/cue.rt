@@ -2,8 +2,9 @@
 #![tactic(auto, using(lx_io::proofs::Chain::puts))]
 
 ghost use Rattle.std.specs.Prelude.{[], ◌++◌, ◌∷◌, codes};
-ghost use Rattle.lx_writer.specs.Imports.{Puts, time_text, line, cue_number_text, block_text, assert_text, label_text, follow_text};
-ghost use Rattle.lx_writer.specs.Imports.{link_text};
+ghost use Rattle.lx_io.specs.Puts.{Puts};
+ghost use Rattle.lx_spec.specs.Numerals.{time_text};
+ghost use Rattle.lx_spec.specs.ShowText.{line, cue_number_text, block_text, assert_text, label_text, follow_text, link_text};
 
 use crate::part::put_parts;
 use crate::pieces::Written;

@@ -3,7 +3,11 @@
 
 ghost use Rattle.std.specs.Prelude.{◌≡◌, ◌==◌, true, ◌+◌, ◌-◌, ◌*◌, ◌<◌, ◌≤◌, [], ◌++◌, ◌∷◌, codes, decimal, filter, take, flat_map, false};
 ghost use Rattle.std.specs.Prelude.{length, IfSome, slice_index_or};
-ghost use Rattle.lx_writer.specs.Imports.{AllByRecursion, Puts, shifted_line, shifted_lines, level_text, line, at_text, move_text};
+ghost use Rattle.std.specs.List.{AllByRecursion};
+ghost use Rattle.lx_io.specs.Puts.{Puts};
+ghost use Rattle.lx_writer.specs.ShiftedLines.{shifted_line, shifted_lines};
+ghost use Rattle.lx_spec.specs.Numerals.{level_text};
+ghost use Rattle.lx_spec.specs.ShowText.{line, at_text, move_text};
 ghost use Rattle.lx_writer.specs.declared.lines.TheConstants.{PIECE_MOVES, LINE_BYTES, WRITTEN_BYTES};
 ghost use Rattle.lx_base.specs.declared.TheConstants.{CHANNELS};
 

@@ -2,7 +2,9 @@
 #![tactic(auto, using(lx_io::proofs::Chain::puts))]
 
 ghost use Rattle.std.specs.Prelude.{[], ◌++◌, ◌∷◌, codes, decimal, flat_map};
-ghost use Rattle.lx_writer.specs.Imports.{Puts, time_text, line, part_text};
+ghost use Rattle.lx_io.specs.Puts.{Puts};
+ghost use Rattle.lx_spec.specs.Numerals.{time_text};
+ghost use Rattle.lx_spec.specs.ShowText.{line, part_text};
 
 use crate::lines::put_moves;
 use crate::record::put_between;

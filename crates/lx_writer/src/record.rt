@@ -2,7 +2,8 @@
 #![tactic(auto, using(lx_io::proofs::Chain::puts))]
 
 ghost use Rattle.std.specs.Prelude.{[], ◌++◌, ◌∷◌, codes, decimal, flat_map};
-ghost use Rattle.lx_writer.specs.Imports.{Puts, line, at_text, label_text, member_text};
+ghost use Rattle.lx_io.specs.Puts.{Puts};
+ghost use Rattle.lx_spec.specs.ShowText.{line, at_text, label_text, member_text};
 
 use crate::pieces::{Written, write_each};
 use lx_base::{Chan, Level};

@@ -2,7 +2,9 @@
 #![tactic(auto, using(lx_io::proofs::Chain::puts))]
 
 ghost use Rattle.std.specs.Prelude.{◌++◌, [], ◌∷◌, codes, decimal};
-ghost use Rattle.lx_writer.specs.Imports.{Puts, Valid, line, show_text};
+ghost use Rattle.lx_io.specs.Puts.{Puts};
+ghost use Rattle.lx_spec.specs.Show.{Valid};
+ghost use Rattle.lx_spec.specs.ShowText.{line, show_text};
 
 use crate::pieces::{Written, write_each};
 use crate::record::{put_at_level, put_between};
