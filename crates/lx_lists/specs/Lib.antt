@@ -3,3 +3,4 @@ pub mod KeptLists
 pub mod OtherList
 pub mod SecondLines
 pub mod Laws
+pub mod Imports

@@ -1,15 +1,8 @@
 //! The commands of a line, attempted on the list that they are for.
 
 ghost use Rattle.std.specs.Prelude.{◌≡◌, ◌≢◌, ◌≤◌, None, Some, IfSome, IsTrue, true};
-ghost use Rattle.lx_spec.specs.DeskSession.{begun, command_of};
-ghost use Rattle.lx_spec.specs.TwoLists.{TwoDesks, commands_second};
-ghost use Rattle.lx_spec.specs.ValidEdit.{ValidCommand, ValidLine};
-ghost use Rattle.lx_session.specs.Attempts.{Attempted, heard_of};
-ghost use Rattle.lx_session.specs.LineProgress.{LineProgress};
-ghost use Rattle.lx_session.specs.Spared.{HasStood};
-ghost use Rattle.lx_session.specs.LineState.{next_of, unattempted};
-ghost use Rattle.lx_lists.specs.TwoListsMeaning.{TwoStand};
-ghost use Rattle.lx_lists.specs.OtherList.{TicksReach, Stays};
+ghost use Rattle.lx_lists.specs.Imports.{begun, command_of, TwoDesks, commands_second, ValidCommand, ValidLine, Attempted, heard_of};
+ghost use Rattle.lx_lists.specs.Imports.{LineProgress, HasStood, next_of, unattempted, TwoStand, TicksReach, Stays};
 
 use crate::desk::TwoLists;
 use lx_io::Heap;

@@ -1,17 +1,18 @@
 //! Two cue lists beside each other.
 
 ghost use Rattle.std.specs.Prelude.{◌≡◌, ◌≢◌, ℕ, ◌≤◌, true, false, Err, IfOk, IsTrue, OnErr};
-ghost use Rattle.lx_base.specs.declared.TheConstants.{SLOTS, UNIVERSES};
 ghost use Rattle.lx_io.specs.Causes.{HasCause, HasCauseOf};
 ghost use Rattle.lx_spec.specs.ValidEdit.{ValidCommand};
 ghost use Rattle.lx_spec.specs.WantedMemory.{may_lack_memory};
 ghost use Rattle.lx_spec.specs.Desk.{Desk, opened};
 ghost use Rattle.lx_spec.specs.Output.{dimmer_value};
-ghost use Rattle.lx_spec.specs.TwoLists.{TwoDesks, opened_two, second_show, first_step, second_step, tick_step, is_tick, commands_second, frame_of_two};
+ghost use Rattle.lx_spec.specs.TwoLists.{TwoDesks, opened_two, second_show, first_step, second_step, tick_step, is_tick, commands_second};
+ghost use Rattle.lx_spec.specs.TwoLists.{frame_of_two};
 ghost use Rattle.lx_mixer.specs.Table.{IsTable};
 ghost use Rattle.lx_console.specs.Slots.{universe};
 ghost use Rattle.lx_console.specs.ConsoleMeaning.{StandsFor, Obeys};
 ghost use Rattle.lx_lists.specs.TwoListsMeaning.{TwoStand, Steps, TakesStep, list_of, out_of_both};
+ghost use Rattle.lx_base.specs.declared.TheConstants.{SLOTS, UNIVERSES};
 
 use crate::output::Output;
 use crate::split::{leave_first, second_of};

@@ -1,11 +1,8 @@
 //! The frame of both lists as a line.
 
 ghost use Rattle.std.specs.Prelude.{◌≡◌, ◌≤◌, [], true, IfOk};
+ghost use Rattle.lx_lists.specs.Imports.{Puts, HasSinkCause, frame_text, TwoDesks, frame_of_two, TwoStand};
 ghost use Rattle.lx_base.specs.declared.TheConstants.{UNIVERSES};
-ghost use Rattle.lx_io.specs.Puts.{Puts, HasSinkCause};
-ghost use Rattle.lx_spec.specs.Replies.{frame_text};
-ghost use Rattle.lx_spec.specs.TwoLists.{TwoDesks, frame_of_two};
-ghost use Rattle.lx_lists.specs.TwoListsMeaning.{TwoStand};
 
 use crate::desk::TwoLists;
 use lx_console::slots_of;

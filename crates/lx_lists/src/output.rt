@@ -1,10 +1,7 @@
 //! What both lists put out together.
 
 ghost use Rattle.std.specs.Prelude.{◌≡◌, max, length, slice_index, EachIndex, IfOk};
-ghost use Rattle.lx_io.specs.Causes.{HasCause};
-ghost use Rattle.lx_patch.specs.DimmerTable.{StandsForPatch};
-ghost use Rattle.lx_console.specs.KeptOutput.{IsPatchedBut, SlotsStand};
-ghost use Rattle.lx_lists.specs.KeptLists.{HasRoomForFrames, IsFilled, WasFilled};
+ghost use Rattle.lx_lists.specs.Imports.{HasCause, StandsForPatch, IsPatchedBut, SlotsStand, HasRoomForFrames, IsFilled, WasFilled};
 
 use lx_base::{Dimmer, Level};
 use lx_console::{Change, KeptOutput, Player};

@@ -1,7 +1,6 @@
 //! Sessions of two lists: a line whose first token is 2 is for the second one.
 
 ghost use Rattle.std.specs.Prelude.{◌≡◌, ◌≤◌, List, ℕ, Bool, IfOk, IfSome, None, not, true, false, option_copied};
-ghost use Rattle.lx_base.specs.declared.TheConstants.{INPUT_BYTES};
 ghost use Rattle.lx_io.specs.Puts.{HasSinkCause};
 ghost use Rattle.lx_lex.specs.Unread.{CanAdvance, SameSource, bytes_taken, source_left, unread};
 ghost use Rattle.lx_spec.specs.Session.{Session, ends_script};
@@ -14,6 +13,7 @@ ghost use Rattle.lx_session.specs.SessionOutcome.{HasSessionCause, KeepsLimit};
 ghost use Rattle.lx_session.specs.Waits.{HandsOnReplies};
 ghost use Rattle.lx_lists.specs.TwoListsMeaning.{TwoStand};
 ghost use Rattle.lx_lists.specs.SecondLines.{IsRestFor};
+ghost use Rattle.lx_base.specs.declared.TheConstants.{INPUT_BYTES};
 
 use crate::attempts::{attempt_all, attempt_second};
 use crate::desk::TwoLists;

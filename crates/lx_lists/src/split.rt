@@ -1,10 +1,8 @@
 //! A show's cues in two lists.
 
 ghost use Rattle.std.specs.Prelude.{◌≡◌, ◌≤◌, ◌<◌, None, IfOk, IfSome, IsTrue};
+ghost use Rattle.lx_lists.specs.Imports.{HasCause, has_entry, first_show, second_show};
 ghost use Rattle.lx_base.specs.declared.TheConstants.{SECOND_LIST};
-ghost use Rattle.lx_io.specs.Causes.{HasCause};
-ghost use Rattle.lx_spec.specs.SortedList.{has_entry};
-ghost use Rattle.lx_spec.specs.TwoLists.{first_show, second_show};
 
 use lx_base::{CueNo, SECOND_LIST};
 use lx_io::Heap;

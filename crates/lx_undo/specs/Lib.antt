@@ -3,3 +3,4 @@ pub mod UndoDeskMeaning
 pub mod HistoryLines
 pub mod CommandProgress
 pub mod Laws
+pub mod Imports

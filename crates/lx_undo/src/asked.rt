@@ -1,14 +1,8 @@
 //! Lines that ask something of the history, done and answered.
 
 ghost use Rattle.std.specs.Prelude.{◌≡◌, ◌≤◌, true, Err, IfOk, IfSome};
-ghost use Rattle.lx_io.specs.Puts.{Puts};
-ghost use Rattle.lx_spec.specs.Undo.{UndoState};
-ghost use Rattle.lx_spec.specs.UndoSession.{after_asking};
-ghost use Rattle.lx_session.specs.Spared.{HasStood};
-ghost use Rattle.lx_session.specs.LineReply.{TallyHasRoom, HasOneMore, counts_in};
-ghost use Rattle.lx_script.specs.UndoLines.{NamesCue};
-ghost use Rattle.lx_undo.specs.UndoDeskMeaning.{UndoStands};
-ghost use Rattle.lx_undo.specs.HistoryLines.{HasAsked, answer_text, counted_denial, denial_text};
+ghost use Rattle.lx_undo.specs.Imports.{Puts, UndoState, after_asking, HasStood, TallyHasRoom, HasOneMore, counts_in, NamesCue, UndoStands};
+ghost use Rattle.lx_undo.specs.Imports.{HasAsked, answer_text, counted_denial, denial_text};
 
 use crate::desk::UndoDesk;
 use lx_io::{Heap, Sink, SinkFault};

@@ -1,7 +1,6 @@
 //! Sessions of a desk with its history.
 
 ghost use Rattle.std.specs.Prelude.{◌≡◌, ◌≤◌, ◌-◌, ◌≢◌, List, ℕ, Bool, IfOk, IfSome, None, Some, not, true, option_copied};
-ghost use Rattle.lx_base.specs.declared.TheConstants.{INPUT_BYTES};
 ghost use Rattle.lx_io.specs.Puts.{HasSinkCause};
 ghost use Rattle.lx_lex.specs.Unread.{CanAdvance, SameSource, bytes_taken, source_left, unread};
 ghost use Rattle.lx_spec.specs.Script.{line_of};
@@ -22,6 +21,7 @@ ghost use Rattle.lx_script.specs.LinesWithUndo.{IsReadWithUndo, IsValidWithUndo}
 ghost use Rattle.lx_script.specs.UndoLines.{NamesCue};
 ghost use Rattle.lx_undo.specs.UndoDeskMeaning.{UndoStands};
 ghost use Rattle.lx_undo.specs.CommandProgress.{HasReached};
+ghost use Rattle.lx_base.specs.declared.TheConstants.{INPUT_BYTES};
 
 use crate::asked::{ask, give};
 use crate::desk::UndoDesk;
