@@ -4,12 +4,15 @@ use Rattle.lx_levels.proofs.Imports.{length, min, arith, get_or, set, replicate,
 use Rattle.lx_levels.proofs.Imports.{get_or_read, same_lists, get_or_past, get_or-replicate, Fade}
 use Rattle.lx_levels.proofs.Imports.{pushed, stack_column, no_fade, drop-stack_column, in_block, read_is, NEVER, Stack, no_stack}
 use Rattle.std.proofs.lemmas.List.FromFn.{length-map-range_with_len, get_or-map-range_with_len}
-use Rattle.lx_fade.proofs.Rows.{length-stack_column}
 use Rattle.lx_sheet.proofs.Cells.{places_apart}
 use Rattle.lx_levels.specs.declared.racks.Foot.{Foot}
 use Rattle.lx_levels.specs.declared.racks.Racks.TheInside.{Inside}
 use Rattle.lx_levels.specs.Columns.{IsLaidOut, foot_at, stack_on, stack_at_place, stacks_of}
 use Rattle.lx_levels.proofs.Written.{after_set}
+
+length-stack_column : (block : List Fade) (channels k n : ℕ) → length (stack_column block channels k n) ≡ n
+length-stack_column block channels k zero = refl
+length-stack_column block channels k (suc n) = ap suc (length-stack_column block channels k n)
 
 -- of two blocks that agree at its places
 column_same : (new old : List Fade) (channels k n : ℕ)
