@@ -24,7 +24,7 @@ from types import TracebackType
 from typing import Any, Callable, Dict, List, NamedTuple, Optional, Type, Union
 
 __all__ = ["BadLine", "Cue", "Desk", "Refused", "ShowRefused", "State", "SLOTS", "TICK", "UNIVERSES", "__version__"]
-__version__ = "1.0.4"
+__version__ = "1.0.5"
 
 #: Universes, the slots of each, and how many hundredths of a second a tick is.
 UNIVERSES = 32
