@@ -28,11 +28,6 @@ no_failures (Crew operators form) bytes = tt
 pub unwritten : (ample : Bool) (job : Job) (bytes : List ℕ) (h : Option (List ℕ)) → WritesFront ample job bytes h h
 unwritten ample job bytes h = record { failures = []; allows = none_of_job ample job bytes (no_failures job bytes); text = front_nothing h (output_of job bytes []) }
 
--- the same, where the source may tell no bytes
-pub nothing_written : (ample : Bool) (job : Job) (o : Option (List ℕ)) (h : Option (List ℕ)) → IfSome o (λ bytes. WritesFront ample job bytes h h)
-nothing_written ample job None h = tt
-nothing_written ample job (Some bytes) h = unwritten ample job bytes h
-
 -- and where what is held stands as it was
 pub unwritten_as : (ample : Bool) (job : Job) (bytes : List ℕ) (h h' : Option (List ℕ)) → h' ≡ h → WritesFront ample job bytes h h'
 unwritten_as ample job bytes h h' kept = subst (λ (v : Option (List ℕ)). WritesFront ample job bytes h v) (sym kept) (unwritten ample job bytes h)

@@ -11,7 +11,7 @@ pub use Rattle.lx_desk.specs.Crew.{HandsOn, HasCrewCause, HasCrewEnded, IsLowest
 pub use Rattle.lx_desk.specs.Crew.{TakesNoneOrWants, TellsOperators, WantsCrew, WritesCrewFront, WritesFirstLines, WritesLines, WritesTranscript}
 pub use Rattle.lx_desk.specs.Endings.{AnswersWords, at_once, EndsJob, EndsScript, HasCauseOf, HasEnded, HasEndedBy, HasPlayed, is_live}
 pub use Rattle.lx_desk.specs.Endings.{WritesWhole}
-pub use Rattle.lx_desk.specs.Done.{Does, Refuses, Tells}
+pub use Rattle.lx_desk.specs.Done.{Accounts, Does, Refuses, Tells}
 pub use Rattle.lx_desk.specs.Faults.{status_for, status_of_sink}
 pub use Rattle.lx_desk.specs.Finished.{Finishes, HasWanted, IsDone, IsOfInput, WantsMemory}
 pub use Rattle.lx_desk.specs.Generator.{after_cue, after_setting, after_turn, chan_text, drawn_cue, drawn_cue_text, made_show, set_text, setting_from}
@@ -70,7 +70,7 @@ pub use Rattle.lx_spec.specs.declared.Form.TheVariants.{Moves}
 pub use Rattle.lx_spec.specs.declared.Job.{Job}
 pub use Rattle.lx_spec.specs.declared.Job.TheVariants.{Check, Crew, Make, Script, Sheet}
 pub use Rattle.lx_spec.specs.declared.ScriptKind.{ScriptKind}
-pub use Rattle.lx_spec.specs.declared.ScriptKind.TheVariants.{Live, Render}
+pub use Rattle.lx_spec.specs.declared.ScriptKind.TheVariants.{Live, Render, Two, Undo}
 pub use Rattle.lx_spec.specs.declared.TextFault.{TextFault}
 pub use Rattle.lx_workers.specs.Places.{IsFull}
 pub use Rattle.std.proofs.lemmas.Option.{same_Some, slice_get_within}
