@@ -1,8 +1,8 @@
 -- How a run of several operators ended, from its show and its crew.
-use Rattle.lx_desk.proofs.Imports.{◌≡◌, inl, inr, ℕ, ◌≤◌, Option, Some, None, Result, Ok, Err, IfSome, List, [], length, refl, sym}
-use Rattle.lx_desk.proofs.Imports.{◌∙◌, subst, arith, INPUT_BYTES, Rose, AppendsFront, Lines, unread, Form, Crew, TextFault}
-use Rattle.lx_desk.proofs.Imports.{fault_text, Reading, reads, show_wanted, Loaded, ShowFault, reading_of, HasRead, Status}
-use Rattle.lx_desk.proofs.Imports.{RefusedBy, EndsJob, HasEnded, ServesOrWants, HasCrewEnded, WritesFirstLines, WritesCrewFront}
+use Rattle.lx_desk.proofs.Imports.{◌≡◌, inl, inr, ℕ, Option, Result, Ok, Err, IfSome, List, refl, sym}
+use Rattle.lx_desk.proofs.Imports.{subst, arith, Rose, AppendsFront, Lines, unread, Form, Crew, TextFault}
+use Rattle.lx_desk.proofs.Imports.{fault_text, Reading, reads, Loaded, ShowFault, reading_of, HasRead, Status}
+use Rattle.lx_desk.proofs.Imports.{RefusedBy, EndsJob, ServesOrWants, HasCrewEnded, WritesFirstLines, WritesCrewFront}
 use Rattle.lx_desk.proofs.Imports.{Bool, false, HasCauseOf, OperatorFailed, HasCrewCause, ToldBySource}
 use Rattle.lx_desk.specs.declared.desk.Status.TheVariants as status
 use Rattle.lx_desk.proofs.Inputs.{IfSome_then, Says, all_known, both_known, crew_tells, front_nothing, means_of, over_all, read_fits, refusal_ended}

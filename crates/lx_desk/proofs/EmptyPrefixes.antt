@@ -1,5 +1,5 @@
 -- Where nothing was written, a prefix of what a job writes was.
-use Rattle.lx_desk.proofs.Imports.{Option, Some, None, IfSome, List, ℕ, [], Moves, Job, Check, Sheet, Make, Script, Crew, Render, reads, made_input}
+use Rattle.lx_desk.proofs.Imports.{Option, List, ℕ, [], Moves, Job, Check, Sheet, Make, Script, Crew, Render, reads, made_input}
 use Rattle.lx_desk.proofs.Imports.{Bool, output_of, JobAllows, WritesFront}
 use Rattle.lx_desk.proofs.Imports.{◌≡◌, AppendsFront, AppendsFront-from, false, JobFailures, Ok, Err, Reading, refl, Result, ScriptAllows, ScriptKind, subst, sym}
 use Rattle.lx_desk.proofs.Imports.{TextFault, true}

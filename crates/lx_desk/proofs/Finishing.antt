@@ -1,7 +1,7 @@
 -- What the status of a job says of its end, of the counts and of what is kept back, from the ends of its calls.
 use Rattle.lx_desk.proofs.Imports.{◌≡◌, ◌⊎◌, inl, inr, ℕ, Result, Ok, Err, Option, List, [], ◌∙◌, sym, ap, ◌≢◌, Lines, ShowFault, append-nil}
 use Rattle.lx_desk.proofs.Imports.{SessionFault, Tally, HasSessionCause, Status, status_for, status_kept, IsDone, IsOfInput, Finishes}
-use Rattle.lx_desk.proofs.Imports.{ToldBySink, ToldBySource, Rose, WantsMemory, ◌≤◌, arith, refl, subst, HandsOnReplies, Accounts, HasLiveCause}
+use Rattle.lx_desk.proofs.Imports.{ToldBySink, ToldBySource, Rose, ◌≤◌, arith, refl, subst, HandsOnReplies, Accounts, HasLiveCause}
 use Rattle.lx_desk.proofs.Imports.{fault_text, Puts, Puts-is, Puts-then, Refuses, SinkFault, status_of_sink, Tells, TextFault, EndsScript, HasCauseOf}
 use Rattle.lx_desk.proofs.Imports.{AppendsFront-from, source_faults}
 use Rattle.std.specs.Io.KnownBytes.{Keeps}

@@ -1,5 +1,5 @@
 -- What a job over the show of an input does, from what its calls came to.
-use Rattle.lx_desk.proofs.Imports.{◌≡◌, ◌≢◌, ◌≤◌, ℕ, Bool, false, Option, List, IfSome, sym, ap, ◌∙◌, subst, Lines, unread, Form, Job}
+use Rattle.lx_desk.proofs.Imports.{◌≡◌, ◌≢◌, ◌≤◌, ℕ, false, Option, List, IfSome, sym, subst, Lines, unread, Form, Job}
 use Rattle.lx_desk.proofs.Imports.{Script, ScriptKind, answering_of, opening_of, Reading, Loaded, ShowFault, reading_of, HasRead, Status}
 use Rattle.lx_desk.proofs.Imports.{◌⊎◌, AnswersWords, at_once, EndsJob, inl, inr, None, Some, Does, Plays, Refuses, Tells, ToldBySink, ToldBySource, Rose, stood_since}
 use Rattle.lx_spec.specs.Job.{given_to}

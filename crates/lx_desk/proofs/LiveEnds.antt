@@ -1,13 +1,13 @@
 -- How a live run ended, from its show and its script.
-use Rattle.lx_desk.proofs.Imports.{◌≡◌, ◌⊎◌, inl, inr, true, false, ℕ, ◌+◌, ◌-◌, ◌≤◌, Option, Some, None, Result, Ok}
-use Rattle.lx_desk.proofs.Imports.{Err, IsOk, IfSome, List, length, refl, sym, ap, ◌∙◌, subst, arith}
-use Rattle.lx_desk.proofs.Imports.{Appends, INPUT_BYTES, SinkFault, Rose, AppendsFront, Lines, unread, Form}
+use Rattle.lx_desk.proofs.Imports.{◌≡◌, ◌⊎◌, inl, inr, true, false, ℕ, ◌+◌, ◌-◌, ◌≤◌, Option, Result, Ok}
+use Rattle.lx_desk.proofs.Imports.{Err, IsOk, IfSome, List, length, refl, sym, subst, arith}
+use Rattle.lx_desk.proofs.Imports.{INPUT_BYTES, SinkFault, Rose, Lines, unread, Form}
 use Rattle.lx_desk.proofs.Imports.{TextFault, desk_lawful, front_of_whole, Script, Live, lines_of, opened, Reading, reads}
-use Rattle.lx_desk.proofs.Imports.{script_of, lines_read, begin_at, AnswersInFront, AnswersTaken}
-use Rattle.lx_desk.proofs.Imports.{answered_lines, bytes_wanted, begun, desk_answering, Show, Loaded, ShowFault, reading_of, HasRead, Status}
-use Rattle.lx_desk.proofs.Imports.{WritesPrefix, RefusedBy, EndsJob, HasEnded, live_after, LiveAllows, PlaysScript}
-use Rattle.lx_desk.proofs.Imports.{AmpleMemory, AreServed, PlaysInFront, PlaysTaken, HasPlayedLive, PlaysWhole, LivesInFront, LivesTaken, HasLived, PlaysToEnd, LivesToEnd}
-use Rattle.lx_desk.proofs.Imports.{LacksMemory, HasFailedOutlet, DecidesInOrder, HasWanted, ToldBySink, ToldBySource}
+use Rattle.lx_desk.proofs.Imports.{script_of, lines_read, begin_at}
+use Rattle.lx_desk.proofs.Imports.{answered_lines, bytes_wanted, begun, desk_answering, Loaded, ShowFault, HasRead, Status}
+use Rattle.lx_desk.proofs.Imports.{WritesPrefix, RefusedBy, HasEnded, PlaysScript}
+use Rattle.lx_desk.proofs.Imports.{AmpleMemory, PlaysInFront, PlaysTaken, HasPlayedLive, LivesInFront, LivesTaken, HasLived, PlaysToEnd, LivesToEnd}
+use Rattle.lx_desk.proofs.Imports.{DecidesInOrder, HasWanted, ToldBySink, ToldBySource}
 use Rattle.lx_desk.specs.declared.desk.Status.TheVariants as status
 use Rattle.lx_desk.proofs.Imports.{Check, IsErr, ◌≢◌}
 use Rattle.lx_desk.specs.Live.{NoneRose}

@@ -3,10 +3,10 @@ use Rattle.lx_desk.proofs.Imports.{◌≡◌, inl, inr, ℕ, zero, suc, ◌<◌,
 use Rattle.lx_desk.proofs.Imports.{Ok, Err, IfSome, List, [], ◌∷◌, ◌++◌, length, take, slice_get, refl, sym, ap, ◌∙◌, subst, arith}
 use Rattle.lx_desk.proofs.Imports.{append-nil, take_all, ◌+◌, HandsOnReplies, INPUT_BYTES, same_Some, SinkFault, Lines, Command, lines_of, Show, opened}
 use Rattle.lx_desk.proofs.Imports.{Kept, Session, begin_at, after_each, answered_lines, Allows, bytes_wanted, DeskState, begun, desk_answering}
-use Rattle.lx_desk.proofs.Imports.{SessionFault, Tally, HasDone, AnsweredWhole, AnsweredPrefix, AnsweredTaken, ScriptAnswered, KeepsLimit}
+use Rattle.lx_desk.proofs.Imports.{SessionFault, Tally, HasDone, ScriptAnswered, KeepsLimit}
 use Rattle.lx_desk.proofs.Imports.{HasSessionCause, IsFull, Status, status_for, live_session, LiveAllows, HaveVersions, PlaysScript, HaveGot}
 use Rattle.lx_desk.proofs.Imports.{AmpleMemory, any_memory, AreServed, PlaysInFront, PlaysTaken, HasPlayedLive, OutletFailed, PlaysToEnd, LacksMemory}
-use Rattle.lx_desk.proofs.Imports.{HasFailedOutlet, DecidesInOrder, Finishes, HasLiveCause, TellsOutlets, TellsRun, Appends, AppendsFront, ToldBySink, ToldBySource}
+use Rattle.lx_desk.proofs.Imports.{DecidesInOrder, Finishes, HasLiveCause, TellsOutlets, TellsRun, Appends, AppendsFront, ToldBySink, ToldBySource}
 use Rattle.std.specs.Prelude.{◌&&◌}
 use Rattle.lx_desk.proofs.Imports.{◌-◌, AppendsAtLeast, bytes_taken, desk_lawful, more_of_whole, source_faults, source_left}
 use Rattle.lx_desk.proofs.Imports.{◌⊎◌, ByMemory, EndsScript, PlaysLive, stood_since, unread, Rose, HasStood, OutletsFinish, OutletWanted, WantsLive}

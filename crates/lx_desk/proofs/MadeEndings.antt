@@ -1,5 +1,5 @@
 -- What `make` writes, from the reader's answer and the session's.
-use Rattle.lx_desk.proofs.Imports.{◌≡◌, ◌⊎◌, inl, inr, ℕ, ◌+◌, ◌≤◌, true, Option, Some, Result, Ok, Err, IfSome}
+use Rattle.lx_desk.proofs.Imports.{◌≡◌, ◌⊎◌, ℕ, ◌+◌, ◌≤◌, true, Option, Some, Ok, Err, IfSome}
 use Rattle.lx_desk.proofs.Imports.{List, [], ◌∷◌, ◌++◌, length, sum, refl, sym, ap, ◌∙◌, subst, arith, codes, decimal, Appends, INPUT_BYTES}
 use Rattle.lx_desk.proofs.Imports.{Rose, AppendsFront, Lines, unread, Command, Moves, Make, Script, Render, lines_of, Desk, opened, Kept, line}
 use Rattle.lx_desk.proofs.Imports.{Session, Counts, whole_session, bytes_wanted, DeskState, begun, desk_answering, Reading, reads, script_of, over_show}
@@ -8,13 +8,13 @@ use Rattle.lx_desk.proofs.Imports.{Loaded, ShowFault, reading_of, HasRead, Statu
 use Rattle.lx_desk.proofs.Imports.{HasEndedBy, ToldBySource, Bool, false, spared, JobFailures, ScriptFailures}
 use Rattle.lx_desk.proofs.Imports.{SessionFault, KeepsLimit, status_for, Does, HasSessionCause, Refuses, source_faults, stood_since, ToldBySink}
 use Rattle.lx_session.specs.declared.fault.SessionFault.TheVariants as sessions
-use Rattle.lx_desk.proofs.AmpleFailures.{FailedSo, failed_so}
+use Rattle.lx_desk.proofs.AmpleFailures.{failed_so}
 use Rattle.lx_spec.specs.Output.{frame}
 use Rattle.lx_session.specs.LineReply.{counts_in}
 use Rattle.lx_reader.specs.declared.fault.ShowFault.TheVariants as faults
 use Rattle.lx_desk.specs.declared.desk.Status.TheVariants as status
 use Rattle.lx_desk.specs.declared.make.Report.{Report}
-use Rattle.lx_desk.specs.Made.{HasTold, TellsScript, TellsSession, TellsInFront, report_of, report_text}
+use Rattle.lx_desk.specs.Made.{HasTold, TellsScript, TellsInFront, report_of, report_text}
 use Rattle.lx_desk.proofs.EmptyPrefixes.{unwritten}
 use Rattle.lx_desk.proofs.Inputs.{IfSome_then, IsOver, IsRead, Over, Says, all_known, allowed, both_known, by_kind, front_nothing, is_ok, none_of_script}
 use Rattle.lx_desk.proofs.Inputs.{over_loaded, refusal_ended, script_over, wanted_read}

@@ -1,5 +1,5 @@
 -- Places of which the first are in use, and the others stand behind them.
-use Rattle.lx_desk.proofs.Imports.{◌≡◌, ℕ, zero, suc, ◌<◌, ◌≤◌, Option, Some, List, [], ◌∷◌, ◌++◌, length, take, drop, slice_get, refl, ap, ◌∙◌}
+use Rattle.lx_desk.proofs.Imports.{◌≡◌, ℕ, zero, suc, ◌<◌, List, [], ◌∷◌, ◌++◌, length, take, drop, slice_get, refl, ap, ◌∙◌}
 use Rattle.lx_desk.proofs.Imports.{arith, drop_at, take-append-drop}
 use Rattle.std.proofs.lemmas.List.{take_at}
 

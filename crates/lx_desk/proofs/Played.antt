@@ -1,5 +1,5 @@
 -- A script that was played, from what its session came to.
-use Rattle.lx_desk.proofs.Imports.{◌≡◌, ℕ, Result, Ok, Err, HandsOnReplies, Option, IfSome, List, sym, subst, Lines, bytes_taken}
+use Rattle.lx_desk.proofs.Imports.{◌≡◌, ℕ, Result, Ok, Err, HandsOnReplies, Option, IfSome, List, subst, Lines, bytes_taken}
 use Rattle.lx_desk.proofs.Imports.{source_left, unread, lines_of, Answering, SessionFault, Tally, HasSessionCause, KeepsLimit, AnsweredPrefix, AnsweredWhole}
 use Rattle.lx_desk.proofs.Imports.{AnsweredTaken, ScriptAnswered, front_of_whole, Status, status_for, AnswersInFront, AnswersScript, AnswersTaken, HasPlayed}
 use Rattle.lx_desk.proofs.Imports.{Plays, ToldBySink, ToldBySource, ◌≤◌, Bool, Appends, AppendsFront, Session, Rose, ByMemory}
