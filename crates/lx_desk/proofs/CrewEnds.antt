@@ -12,8 +12,8 @@ use Rattle.lx_desk.proofs.CrewRuns.{no_lines}
 
 -- a crew over a show that was read
 module _ {form : Form} {count : ℕ} {I S : Type 0} {told_in : ToldBySource I} {told : ToldBySource S} {a b : Lines I} {loaded : Loaded}
-    {operators operators' : List (Option S)} {h h' : Option (List ℕ)} (r : HasRead told_in a b form loaded) where
-  pub crew_ended : {ample : Bool} {s : Status} → a.taken ≡ 0 → ServesOrWants ample told loaded.show count operators operators' h h' s
+    {operators : List (Option S)} {h h' : Option (List ℕ)} (r : HasRead told_in a b form loaded) where
+  pub crew_ended : {ample : Bool} {operators' : List (Option S)} {s : Status} → a.taken ≡ 0 → ServesOrWants ample told loaded.show count operators operators' h h' s
       → (rest : Option (List ℕ)) → IfSome (unread told_in a) (λ x. HasCrewEnded ample told count form x rest operators operators' h h' s)
   crew_ended none served rest = both_known (unread told_in a) r.means.text (read_fits r) (λ x read fits. elim served [
     | inl wants ↦ rw wants.0 (inl (record {

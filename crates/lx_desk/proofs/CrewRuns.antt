@@ -184,22 +184,22 @@ earlier_written show entries failures held held' whole =
     at_least_first held held' _ _ (names_written (opened show) entries failures held held' whole)
 
 -- However a crew ended, it wrote a prefix of the text of first lines.
+as_prefix : {show : Show} {lines : ℕ → List (List ℕ)} {held held' : Option (List ℕ)} → WritesTranscript false show lines held held' → TranscriptPrefix false (opened show) lines held held'
+as_prefix {show} {lines} {held} {held'} w = record {
+  entries = w.entries;
+  merged = λ operator. (
+    length (lines operator),
+    w.merged operator
+        ∙ ap (numbered_from operator 1) (sym (take_all (length (lines operator)) (lines operator) (omega arith))),
+  );
+  failures = w.failures;
+  allows = w.allows;
+  text = whole_front held held' (crew_text (opened show) w.entries w.failures) w.text;
+  earlier = earlier_written show w.entries w.failures held held' w.text;
+}
+
 module _ {S : Type 0} {told : ToldBySource S} {show : Show} {count : ℕ} {operators operators' : List (Option S)}
     {held held' : Option (List ℕ)} where
-  as_prefix : {lines : ℕ → List (List ℕ)} → WritesTranscript false show lines held held' → TranscriptPrefix false (opened show) lines held held'
-  as_prefix {lines} w = record {
-    entries = w.entries;
-    merged = λ operator. (
-      length (lines operator),
-      w.merged operator
-          ∙ ap (numbered_from operator 1) (sym (take_all (length (lines operator)) (lines operator) (omega arith))),
-    );
-    failures = w.failures;
-    allows = w.allows;
-    text = whole_front held held' (crew_text (opened show) w.entries w.failures) w.text;
-    earlier = earlier_written show w.entries w.failures held held' w.text;
-  }
-
   some_front : {s : Status} (h : Serves false told show count operators operators' held held' s)
       → TranscriptPrefix false (opened show) h.lines held held' → WritesFirstLines told show count operators held held'
   some_front h w = record {

@@ -129,10 +129,10 @@ module _ {S K : Type 0} {told_in : ToldBySource S} {told_out : ToldBySink K} {ol
   session_wants (Err faults.Memory) c is = c.failed
   session_wants r c is = cc
 
-  pub session_accounts : {first before after : ℕ} (r : Result Tally SessionFault) → first ≤ before → before ≤ after
+  pub session_accounts : (before : ℕ) {first after : ℕ} (r : Result Tally SessionFault) → first ≤ before → before ≤ after
       → HasSessionCause told_in told_out old new sink sink' r → HandsOnReplies r (told_out.back sink')
       → Accounts told_out first after (source_faults told_in old) (source_faults told_in new) sink sink' (status_for r)
-  session_accounts r opened held c none = record {
+  session_accounts before r opened held c none = record {
     cause = has_cause r c;
     finished = session_finishes r c none;
     memory = λ is. inr (session_wants r c is);
@@ -153,11 +153,11 @@ module _ {S K : Type 0} {told_in : ToldBySource S} {told_out : ToldBySink K} {ol
   dropped_undone faults.ReadFault done = done
   dropped_undone fault done = done
 
-  pub dropped_accounts : {O : Type 0} {told : ToldBySink O} {output : O} {first before after : ℕ} (fault : SessionFault) → told_out.faults sink' ≡ 0
+  pub dropped_accounts : (before : ℕ) {O : Type 0} {told : ToldBySink O} {output : O} {first after : ℕ} (fault : SessionFault) → told_out.faults sink' ≡ 0
       → told_out.wants sink' ≡ 0 → first ≤ before → before ≤ after
       → HasSessionCause {T = Tally} told_in told_out old new sink sink' (Err fault)
       → Accounts told first after (source_faults told_in old) (source_faults told_in new) output output (status_for {A = Tally} (Err fault))
-  dropped_accounts fault unfailed unwanting opened held c = record {
+  dropped_accounts before fault unfailed unwanting opened held c = record {
     cause = dropped_cause fault _ unfailed c;
     finished = cut_short (dropped_undone fault) (λ is. inl refl) (λ of_input. refl);
     memory = λ is. inl refl;

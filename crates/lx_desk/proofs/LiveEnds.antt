@@ -119,15 +119,14 @@ module _ {form : Form} {S : Type 0} {told_in : ToldBySource S} {a b : Lines S} {
   live_order told_out output output' reads reads' reads'' same p = over_loaded r none p
       (λ x y v q. order_on v ample told universes h h' outlets outlets' told_out output output' s reads reads' reads'' same q)
 
--- A show that isn't read.
+-- A show that isn't read: its text has a fault, or it couldn't be read, and then nothing was written, and no write failed.
+abbrev Unanswered : Form → (h h' : Option (List ℕ)) → Status → List ℕ → Type 0
+Unanswered form h h' s x = ((text : TextFault) × (reads form x ≡ Err text)) ⊎ ((h' ≡ h) × (s ≢ status.WriteFault))
+
 module _ {S K : Type 0} (ample : AmpleMemory) (form : Form) (universes : ℕ) (told_in : ToldBySource S) (told : ToldBySink K) (a b : Lines S)
     {h h' : Option (List ℕ)} (outlets : List (Option K)) {fault : ShowFault} where
-  -- its text has a fault, or it couldn't be read, and then nothing was written, and no write failed
-  abbrev Unanswered : Status → List ℕ → Type 0
-  Unanswered s x = ((text : TextFault) × (reads form x ≡ Err text)) ⊎ ((h' ≡ h) × (s ≢ status.WriteFault))
-
   refused_at : (s : Status) → RefusedBy h h' fault s → (x : List ℕ) (left : Option (List ℕ))
-      → HasEnded s (Script (Live universes) form) x left h h' → HasEnded s (Check form) x left h h' → Unanswered s x
+      → HasEnded s (Script (Live universes) form) x left h h' → HasEnded s (Check form) x left h h' → Unanswered form h h' s x
       → HasLived ample s told universes form x left h h' outlets outlets
   refused_at status.Ok by x left e c u = refusal_isnt_ok _ by refl
   refused_at status.ShowRefused by x left e c u = (e, refl)
@@ -158,7 +157,7 @@ module _ {S K : Type 0} (ample : AmpleMemory) (form : Form) (universes : ℕ) (t
   pub refused_lived : (s : Status) → a.taken ≡ 0 → Says form told_in a b fault → RefusedBy h h' fault s
       → IfSome (unread told_in a) (λ x. HasLived ample s told universes form x (told_in.left b.source.now) h h' outlets outlets)
   refused_lived s none says by =
-      let unanswered : IfSome (unread told_in a) (λ x. Unanswered s x) = elim by [
+      let unanswered : IfSome (unread told_in a) (λ x. Unanswered form h h' s x) = elim by [
         | inl t ↦ IfSome_then (unread told_in a) (means_of form told_in a b t says).text (λ x e. inl (t.text, e))
         | inr other ↦ all_known (unread told_in a) _ (λ x. inr (
           other.kept,

@@ -86,7 +86,7 @@ fault_told ample o a cues d taken sessions.InputTooLong limit = IfSome_then o li
 fault_told ample o a cues d taken sessions.WriteFault limit = IfSome_then o limit (λ x any. nothing_told ample cues d (lines_of x) a)
 fault_told ample o a cues d taken sessions.Memory limit = IfSome_then o limit (λ x any. nothing_told ample cues d (lines_of x) a)
 
-module _ {S K : Type 0} {told_in : ToldBySource S} {told : ToldBySink K} {first before after cues : ℕ} {d : Desk} {output : K} where
+module _ {S K : Type 0} {told_in : ToldBySource S} {told : ToldBySink K} {first after cues : ℕ} {d : Desk} {output : K} where
   -- memory was short at the opening
   pub not_told : {lines : Lines S} → first ≤ after → Rose first after
       → TellsScript told_in told first after cues d lines lines output output status.Memory
@@ -97,15 +97,15 @@ module _ {S K : Type 0} {told_in : ToldBySource S} {told : ToldBySink K} {first 
   }
 
   -- the session ended by a fault, beside an output that isn't written
-  pub fault_tells : {D : Type 0} {dropped : ToldBySink D} {old new : Lines S} {sink sink' : D} (fault : SessionFault) → dropped.faults sink' ≡ 0
+  pub fault_tells : (before : ℕ) {D : Type 0} {dropped : ToldBySink D} {old new : Lines S} {sink sink' : D} (fault : SessionFault) → dropped.faults sink' ≡ 0
       → dropped.wants sink' ≡ 0 → first ≤ before → before ≤ after
       → HasSessionCause {T = Tally} told_in dropped old new sink sink' (Err fault)
       → IfSome (unread told_in old) (λ bytes. KeepsLimit old.taken bytes (Err fault))
       → TellsScript told_in told first after cues d old new output output (status_for {A = Tally} (Err fault))
-  fault_tells {old} fault unfailed unwanting opened held cause limit = record {
+  fault_tells before {old} fault unfailed unwanting opened held cause limit = record {
     works = ends_script (Err fault);
     ended = λ ample stood. fault_told ample (unread told_in old) (told.holds output) cues d old.taken fault limit;
-    accounts = dropped_accounts fault unfailed unwanting opened held cause;
+    accounts = dropped_accounts before fault unfailed unwanting opened held cause;
   }
 
 -- ---- the job

@@ -75,7 +75,7 @@ session_plays {by} lawful Stands {state} {told_in} {told_out} {first} before aft
       ended = λ ample stood. has_played ample by lawful Stands state (told_out.holds output) (told_out.holds output') (bytes_taken old)
           (unread told_in old) (unread told_in new) (source_left told_in new) r
           (outcome ample (λ is_ample. stood_since first before after opened (stood is_ample))) limit;
-      accounts = session_accounts r opened held cause none;
+      accounts = session_accounts before r opened held cause none;
     })
 
 -- Memory was short at the opening: nothing was read or written.

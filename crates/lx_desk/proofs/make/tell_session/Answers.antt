@@ -25,4 +25,4 @@ returns-in-Ok-session_in g c =
 pub returns : goal.returns
 returns g c =
     let e = c.in-Err.ensures in
-    rw c.status_of.ensures (fault_tells c.in-Err.fault refl refl c.in-Ok.ensures.cause.later e.later e.cause e.limit)
+    rw c.status_of.ensures (fault_tells _ c.in-Err.fault refl refl c.in-Ok.ensures.cause.later e.later e.cause e.limit)
