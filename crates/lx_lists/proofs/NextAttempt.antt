@@ -10,36 +10,36 @@ use Rattle.lx_session.proofs.AttemptSteps.{nothing_yet, attempted}
 use Rattle.lx_session.proofs.Commands.{own_attempted}
 
 -- A command that is answered so was attempted.
-pub tick_attempted : {A : Type 0} {d : Desk} (answer : Result A Refusal) {before now : Kept} → StandsFor d before
+pub tick_attempted : {A : Type 0} (d : Desk) (answer : Result A Refusal) (before now : Kept) → StandsFor d before
     → Obeys d commands.Tick answer now → OnErr answer (now ≡ before) → Attempted true d commands.Tick (result_err answer) now
-tick_attempted (Ok x) stands obeys same = obeys.ok
-tick_attempted (Err refusal) stands obeys same = (rw same stands, inl obeys.err)
+tick_attempted d (Ok x) before now stands obeys same = obeys.ok
+tick_attempted d (Err refusal) before now stands obeys same = (subst (StandsFor d) (sym same) stands, inl obeys.err)
 
 -- the ticks heard of reach the other
-stood : (d : Desk) (r : Result Desk Refusal) (now : Kept) → IsOkAnd r (λ next. StandsFor next now) → StandsFor (result_unwrap_or r d) now
-stood d (Ok next) now stands = stands
-stood d (Err refusal) now stands = absurd stands
-
-pub tick_reaches : {A : Type 0} {d : Desk} (answer : Result A Refusal) {before now : Kept} → StandsFor d before
+pub tick_reaches : {A : Type 0} (d : Desk) (answer : Result A Refusal) (before now : Kept) → StandsFor d before
     → Obeys d commands.Tick answer now → OnErr answer (now ≡ before) → TicksReach d now (heard_of commands.Tick (result_err answer))
-tick_reaches {d} (Ok x) {now} stands obeys same = stood d (step d commands.Tick) now obeys.ok
-tick_reaches (Err refusal) stands obeys same = rw same stands
+tick_reaches d (Ok x) before now stands obeys same = stood d (step d commands.Tick) now obeys.ok where
+  stood : (d : Desk) (r : Result Desk Refusal) (now : Kept) → IsOkAnd r (λ next. StandsFor next now) → StandsFor (result_unwrap_or r d) now
+  stood d (Ok next) now stands = stands
+  stood d (Err refusal) now stands = absurd stands
+tick_reaches d (Err refusal) before now stands obeys same = subst (StandsFor d) (sym same) stands
 
 -- a command of one list was attempted on its desk
-module _ {A : Type 0} {s : TwoDesks} (c : Command) (answer : Result A Refusal) {before now : TwoKept} (stands : TwoStand s before) where
-  pub first_attempted : TakesStep (may_lack_memory c) (first_step s c) answer now → OnErr answer (now ≡ before)
-      → Attempted true s.first c (result_err answer) now.first
-  first_attempted steps same =
-      own_attempted (λ (d : Desk). record s { first = d }) s.first c answer before.first now.first (λ x. TwoStand x now)
-      (TwoWantMemory (may_lack_memory c) (first_step s c)) stands.first (on_err_weaker answer (ap (λ (t : TwoKept). t.first)) same)
-      (λ d stand. stand.first) (λ refusal want. (want.takes_some, want.memory, want.accepted)) steps.ok steps.err
+pub first_attempted : {A : Type 0} (s : TwoDesks) (c : Command) (answer : Result A Refusal) (before now : TwoKept) → TwoStand s before
+    → TakesStep (may_lack_memory c) (first_step s c) answer now → OnErr answer (now ≡ before)
+    → Attempted true s.first c (result_err answer) now.first
+first_attempted s c answer before now stands steps same =
+    own_attempted (λ (d : Desk). record s { first = d }) s.first c answer before.first now.first (λ x. TwoStand x now)
+    (TwoWantMemory (may_lack_memory c) (first_step s c)) stands.first (on_err_weaker answer (ap (λ (t : TwoKept). t.first)) same)
+    (λ d stand. stand.first) (λ refusal want. (want.takes_some, want.memory, want.accepted)) steps.ok steps.err
 
-  pub second_attempted : TakesStep (may_lack_memory c) (second_step s c) answer now → OnErr answer (now ≡ before)
-      → Attempted true s.second c (result_err answer) now.second
-  second_attempted steps same =
-      own_attempted (λ (d : Desk). record s { second = d }) s.second c answer before.second now.second (λ x. TwoStand x now)
-      (TwoWantMemory (may_lack_memory c) (second_step s c)) stands.second (on_err_weaker answer (ap (λ (t : TwoKept). t.second)) same)
-      (λ d stand. stand.second) (λ refusal want. (want.takes_some, want.memory, want.accepted)) steps.ok steps.err
+pub second_attempted : {A : Type 0} (s : TwoDesks) (c : Command) (answer : Result A Refusal) (before now : TwoKept) → TwoStand s before
+    → TakesStep (may_lack_memory c) (second_step s c) answer now → OnErr answer (now ≡ before)
+    → Attempted true s.second c (result_err answer) now.second
+second_attempted s c answer before now stands steps same =
+    own_attempted (λ (d : Desk). record s { second = d }) s.second c answer before.second now.second (λ x. TwoStand x now)
+    (TwoWantMemory (may_lack_memory c) (second_step s c)) stands.second (on_err_weaker answer (ap (λ (t : TwoKept). t.second)) same)
+    (λ d stand. stand.second) (λ refusal want. (want.takes_some, want.memory, want.accepted)) steps.ok steps.err
 
 no_ticks : (c : Command) (refusal : Option Refusal) → is_tick c ≡ false → filter is_tick (heard_of c refusal) ≡ []
 no_ticks c None other = rw other refl

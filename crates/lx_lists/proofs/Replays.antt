@@ -12,6 +12,9 @@ stands_next : (r : Result TwoDesks Refusal) (s : TwoDesks) (t : TwoKept) → IsO
 stands_next (Ok next) s t ok = ok
 stands_next (Err refusal) s t ok = absurd ok
 
+stands_still : (s : TwoDesks) (before after : TwoKept) → TwoStand s before → after ≡ before → TwoStand s after
+stands_still s before after stands same = subst (TwoStand s) (sym same) stands
+
 -- a tick takes no memory
 no_memory : {A : Type 0} (takes : Bool) (r : Result TwoDesks Refusal) (answer : Result A Refusal) (t : TwoKept) → Steps r answer t
     → TakesStep takes r answer t
@@ -34,14 +37,15 @@ one_accepted : (call : Call) (answer : Result (Unit {0}) Refusal) (s : TwoDesks)
     → TakesStep (wants call) (call_step s call) answer after → OnErr answer (after ≡ before)
     → TwoStand (fold after_call s (if_accepted answer call)) after
 one_accepted call (Ok x) s before after stands step same = stands_next (call_step s call) s after step.ok
-one_accepted call (Err refusal) s before after stands step same = rw same stands
+one_accepted call (Err refusal) s before after stands step same = stands_still s before after stands same
 
 one_done : (call : Call) (answer : Result (Unit {0}) Refusal) (s : TwoDesks) (before after : TwoKept) → TwoStand s before
     → TakesStep (wants call) (call_step s call) answer after → OnErr answer (after ≡ before) → answer ≢ Err Memory
     → TwoStand (after_call s call) after
 one_done call (Ok x) s before after stands step same own = stands_next (call_step s call) s after step.ok
 one_done call (Err refusal) s before after stands step same own = elim step.err as (λ e. TwoStand (after_call s call) after) [
-  | inl refused ↦ rw (refused, same) stands
+  | inl refused ↦
+      subst (λ (r : Result TwoDesks Refusal). TwoStand (result_unwrap_or r s) after) (sym refused) (stands_still s before after stands same)
   | inr want ↦ absurd (own (ap Err want.memory))
 ]
 
