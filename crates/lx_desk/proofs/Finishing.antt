@@ -105,6 +105,10 @@ none_accounts later rose = record {
   later = later;
 }
 
+dropped_undone : (fault : SessionFault) → IsDone (status_for {A = Tally} (Err fault)) → ⊥
+dropped_undone faults.ReadFault done = done
+dropped_undone fault done = done
+
 -- A session.
 module _ {S K : Type 0} {told_in : ToldBySource S} {told_out : ToldBySink K} {old new : Lines S} {sink sink' : K} where
   pub has_cause : (r : Result Tally SessionFault) → HasSessionCause told_in told_out old new sink sink' r
@@ -148,10 +152,6 @@ module _ {S K : Type 0} {told_in : ToldBySource S} {told_out : ToldBySink K} {ol
   dropped_cause faults.WriteFault writes none c = absurd (omega (arith, none, c.failed))
   dropped_cause faults.InputTooLong writes none c = (c.alone.0, refl)
   dropped_cause faults.Memory writes none c = c.alone
-
-  dropped_undone : (fault : SessionFault) → IsDone (status_for {A = Tally} (Err fault)) → ⊥
-  dropped_undone faults.ReadFault done = done
-  dropped_undone fault done = done
 
   pub dropped_accounts : (before : ℕ) {O : Type 0} {told : ToldBySink O} {output : O} {first after : ℕ} (fault : SessionFault) → told_out.faults sink' ≡ 0
       → told_out.wants sink' ≡ 0 → first ≤ before → before ≤ after

@@ -89,7 +89,7 @@ module _ {form : Form} {x y : List ℕ} {taken : ℕ} {reading : Reading} (v : I
   is_ok = subst (λ (r : Result Reading TextFault). IsOk r) (sym v.read) refl
 
   -- the lines of the show, and first lines behind them
-  first_more : (n : ℕ) → first_lines (length v.raws + n) x ≡ v.took.bytes ++ first_lines n y
+  pub first_more : (n : ℕ) → first_lines (length v.raws + n) x ≡ v.took.bytes ++ first_lines n y
   first_more n = ap (first_lines (length v.raws + n)) v.took.took
       ∙ first_lines-more (length v.raws) n v.took.bytes y (v.took.front ∙ ap (first_lines (length v.raws)) v.took.took)
 
