@@ -146,8 +146,8 @@ module _ {S O K : Type 0} (ample : AmpleMemory) {told_in : ToldBySource S} {told
         let from = full_sink outlets full place (omega (arith, within, most)) in
         (within, from.0, from.1)
 
-    failed_at : {place : ℕ} → slice_get results place ≡ Some (Some sinks.Failed) → OutletFailed told outlets now
-    failed_at {place} at =
+    failed_at : (place : ℕ) → slice_get results place ≡ Some (Some sinks.Failed) → OutletFailed told outlets now
+    failed_at place at =
         let from = at_fault at in
         let b = back from.0 from.2 in
         record {
@@ -159,8 +159,8 @@ module _ {S O K : Type 0} (ample : AmpleMemory) {told_in : ToldBySource S} {told
           rose = b.delivered.cause.failed (same_Some b.fault (Some sinks.Failed) (sym b.fault_is ∙ at));
         }
 
-    outlet_wanted : {place : ℕ} → slice_get results place ≡ Some (Some sinks.Memory) → OutletWanted told outlets now
-    outlet_wanted {place} at =
+    outlet_wanted : (place : ℕ) → slice_get results place ≡ Some (Some sinks.Memory) → OutletWanted told outlets now
+    outlet_wanted place at =
         let from = at_fault at in
         let b = back from.0 from.2 in
         record {
@@ -176,7 +176,7 @@ module _ {S O K : Type 0} (ample : AmpleMemory) {told_in : ToldBySource S} {told
     live_cause : (r : Result Tally SessionFault) (s : Status) → TellsRun r results n s → HasSessionCause told_in told_out old new output output' r
         → HasLiveCause told s (source_faults told_in old) (source_faults told_in new) (told_out.faults output) (told_out.faults output') outlets now
     live_cause (Ok tally) status.Ok tells c = tt
-    live_cause (Ok tally) status.WriteFault tells c = (inr (failed_at tells.1), c.kept.0)
+    live_cause (Ok tally) status.WriteFault tells c = (inr (failed_at tells.0 tells.1), c.kept.0)
     live_cause (Ok tally) status.Memory tells c = c.kept.0
     live_cause (Ok tally) s tells c = absurd tells
     live_cause (Err fault) s tells c = rw tells (as_live_cause told (status_for {A = Tally} (Err fault)) _ _ _ _ _ _ (has_cause (Err fault) c))
@@ -188,7 +188,7 @@ module _ {S O K : Type 0} (ample : AmpleMemory) {told_in : ToldBySource S} {told
     live_wanted before after writers writers' (Ok tally) s tells c sent = λ memory.
         let lacks : LacksMemory results n = subst (λ (t : Status). TellsOutlets results n t) memory tells in
         elim lacks.wanted [
-          | inl at ↦ inr (inr (outlet_wanted at.1))
+          | inl at ↦ inr (inr (outlet_wanted at.0 at.1))
           | inr some ↦ inl (inr (unsent_rose n writers writers' sent some))
         ]
     live_wanted before after writers writers' (Err fault) s tells c sent = λ memory. inr (inl (session_wants (Err fault) c (sym tells ∙ memory)))
@@ -206,7 +206,7 @@ module _ {S O K : Type 0} (ample : AmpleMemory) {told_in : ToldBySource S} {told
       (begun (opened show)) (bytes_taken old) bytes (unread told_in new) (source_left told_in new) h h' r
 
   module _ (sent : ample.versions ≡ true → n ≡ 0) (bytes : List ℕ) where
-    served : (list : List Command) → list ≡ commands → AreServed ample.versions told show universes outlets now list
+    abbrev served : (list : List Command) → list ≡ commands → AreServed ample.versions told show universes outlets now list
     served list is = record {
       published = p.published;
       held_back = p.held_back;
