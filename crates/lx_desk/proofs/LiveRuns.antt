@@ -244,7 +244,7 @@ module _ {S O K : Type 0} (ample : AmpleMemory) {told_in : ToldBySource S} {told
         }
 
     -- it was answered to its end
-    to_end : {Told : List (Option SinkFault) → ℕ → Type 0} {tally : Tally} → Answers bytes (Ok tally) → Told results (length p.held_back)
+    abbrev to_end : {Told : List (Option SinkFault) → ℕ → Type 0} {tally : Tally} → Answers bytes (Ok tally) → Told results (length p.held_back)
         → PlaysToEnd ample Told told show universes (lines_of bytes) h h' outlets now
     to_end a tells =
         let live = is_live ample.edits show commands (lines_of bytes) (answered_lines (lines_of bytes)) a.failures a.allows a.stands in
