@@ -13,5 +13,5 @@ returns-in-Undo-clause-plays g c = rw c.in-Undo.is (c.play_by.ensures.plays (g.H
     (opened_with c.args.show UNDO_DEPTH) undo_lawful c.open_in.ensures.cause c.open_in.ensures.stands)
 
 pub returns-in-Two-clause-plays : goal.returns-in-Two-clause-plays
-returns-in-Two-clause-plays g c = rw c.in-Two.is (c.play_by.ensures.plays (g.H.Heap.refusals c.args.heap.now) (opened_two c.args.show)
-    two_lawful c.open_in.ensures.cause c.open_in.ensures.stand)
+returns-in-Two-clause-plays g c = rw c.in-Two.is (c.play_by-in-Two.ensures.plays (g.H.Heap.refusals c.args.heap.now) (opened_two c.args.show)
+    two_lawful c.open_in-in-Two.ensures.cause c.open_in-in-Two.ensures.stand)
