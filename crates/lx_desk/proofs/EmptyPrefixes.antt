@@ -1,5 +1,5 @@
 -- Where nothing was written, a prefix of what a job writes was.
-use Rattle.lx_desk.proofs.Imports.{Option, Some, None, IfSome, List, ℕ, [], Moves, Job, Check, Sheet, Make, Script, Crew, Render, reads, made_input}
+use Rattle.lx_desk.proofs.Imports.{Option, List, ℕ, [], Moves, Job, Check, Sheet, Make, Script, Crew, Render, reads, made_input}
 use Rattle.lx_desk.proofs.Imports.{Bool, output_of, JobAllows, WritesFront}
 use Rattle.lx_desk.proofs.Imports.{◌≡◌, AppendsFront, AppendsFront-from, false, JobFailures, Ok, Err, Reading, refl, Result, ScriptAllows, ScriptKind, subst, sym}
 use Rattle.lx_desk.proofs.Imports.{TextFault, true}
@@ -27,11 +27,6 @@ no_failures (Crew operators form) bytes = tt
 
 pub unwritten : (ample : Bool) (job : Job) (bytes : List ℕ) (h : Option (List ℕ)) → WritesFront ample job bytes h h
 unwritten ample job bytes h = record { failures = []; allows = none_of_job ample job bytes (no_failures job bytes); text = front_nothing h (output_of job bytes []) }
-
--- the same, where the source may tell no bytes
-pub nothing_written : (ample : Bool) (job : Job) (o : Option (List ℕ)) (h : Option (List ℕ)) → IfSome o (λ bytes. WritesFront ample job bytes h h)
-nothing_written ample job None h = tt
-nothing_written ample job (Some bytes) h = unwritten ample job bytes h
 
 -- and where what is held stands as it was
 pub unwritten_as : (ample : Bool) (job : Job) (bytes : List ℕ) (h h' : Option (List ℕ)) → h' ≡ h → WritesFront ample job bytes h h'

@@ -4,7 +4,7 @@ mod Inputs
 mod Finishing
 mod Jobs
 mod MadeEndings
-mod Statuses
+mod PlacesInUse
 mod Played
 mod AnyFailures
 mod AmpleFailures

@@ -1,280 +1,177 @@
 -- How a live run ended, from its show and its script.
-use Rattle.lx_desk.proofs.Imports.{◌≡◌, ◌≢◌, ◌⊎◌, inl, inr, true, false, ℕ, ◌+◌, ◌-◌, ◌≤◌, Option, Some, None, Result, Ok}
-use Rattle.lx_desk.proofs.Imports.{Err, IsOk, IfSome, List, length, refl, sym, ap, ◌∙◌, subst, arith}
-use Rattle.lx_desk.proofs.Imports.{Appends, INPUT_BYTES, SinkFault, Rose, AppendsFront, Lines, LinesBetween, unread, Form}
-use Rattle.lx_desk.proofs.Imports.{TextFault, desk_lawful, front_of_whole, Script, Live, lines_of, opened, over_show, Reading, reads}
-use Rattle.lx_desk.proofs.Imports.{script_of, lines_read, first_replies, input_lines_wanted, input_wanted, ScriptAllows, begin_at}
-use Rattle.lx_desk.proofs.Imports.{answered_lines, lines_wanted, bytes_wanted, begun, desk_answering, Show, Loaded, ShowFault, reading_of, HasRead, Status}
-use Rattle.lx_desk.proofs.Imports.{WritesPrefix, RepliesToTaken, RefusedBy, EndsJob, HasEnded, live_session, live_after, LiveAllows, HaveVersions, PlaysScript}
-use Rattle.lx_desk.proofs.Imports.{AmpleMemory, AreServed, PlaysInFront, PlaysTaken, HasPlayedLive, PlaysWhole, LivesInFront, LivesTaken, HasLived, PlaysToEnd, LivesToEnd}
-use Rattle.lx_desk.proofs.Imports.{LacksMemory, HasFailedOutlet, DecidesInOrder, HasWanted, ToldBySink, ToldBySource}
+use Rattle.lx_desk.proofs.Imports.{◌≡◌, ◌⊎◌, inl, inr, true, false, ℕ, ◌+◌, ◌-◌, ◌≤◌, Option, Result, Ok}
+use Rattle.lx_desk.proofs.Imports.{Err, IsOk, IfSome, List, length, refl, sym, subst, arith}
+use Rattle.lx_desk.proofs.Imports.{INPUT_BYTES, SinkFault, Rose, Lines, unread, Form}
+use Rattle.lx_desk.proofs.Imports.{TextFault, desk_lawful, front_of_whole, Script, Live, lines_of, opened, Reading, reads}
+use Rattle.lx_desk.proofs.Imports.{script_of, lines_read, begin_at}
+use Rattle.lx_desk.proofs.Imports.{answered_lines, bytes_wanted, begun, desk_answering, Loaded, ShowFault, HasRead, Status}
+use Rattle.lx_desk.proofs.Imports.{WritesPrefix, RefusedBy, HasEnded, PlaysScript}
+use Rattle.lx_desk.proofs.Imports.{AmpleMemory, PlaysInFront, PlaysTaken, HasPlayedLive, LivesInFront, LivesTaken, HasLived, PlaysToEnd, LivesToEnd}
+use Rattle.lx_desk.proofs.Imports.{DecidesInOrder, HasWanted, ToldBySink, ToldBySource}
 use Rattle.lx_desk.specs.declared.desk.Status.TheVariants as status
-use Rattle.lx_desk.proofs.Imports.{Check, IsErr, NothingOfCut, status_kept}
-use Rattle.lx_desk.proofs.Inputs.{check_tells, kept_is, refusal_cut}
-use Rattle.lx_desk.proofs.Inputs.{Says, means_of, session_long, session_fits, refusal_isnt_ok, if_known, both_known, over_loaded}
-use Rattle.lx_desk.proofs.EmptyPrefixes.{unwritten_as}
-use Rattle.lx_desk.proofs.Inputs.{cut_from, wanted_read, script_over}
+use Rattle.lx_desk.proofs.Imports.{Check, IsErr, ◌≢◌}
+use Rattle.lx_desk.specs.Live.{NoneRose}
+use Rattle.lx_desk.proofs.Inputs.{IfSome_then, IsRead, Says, all_known, both_known, check_tells, cut_from, front_at, if_both, kept_is, means_of, over_all, over_loaded}
+use Rattle.lx_desk.proofs.Inputs.{refusal_ended, refusal_isnt_ok, script_over, short_of, show_over, taken_at, taken_is, unwritten_as, wanted_read}
 use Rattle.lx_desk.proofs.AnyFailures.{each_allowed}
-use Rattle.lx_desk.proofs.Endings.{refusal_ends, refusal_ended}
+use Rattle.lx_desk.proofs.Endings.{refusal_ends}
 
--- a fault of a show that isn't one of its text is told by another status
-no_write : (fault : ShowFault) → status_kept fault status.WriteFault → ⊥
-no_write fault kept = kept_is fault status.WriteFault (λ f t. t ≡ status.WriteFault → ⊥) kept (λ is. absurd cc) (λ is. absurd cc)
-    (λ is. absurd cc) refl
-
--- Of a show whose levels are read in this form, for this many universes, in a run whose memory was ample, or may not have been.
-module _ (ample : AmpleMemory) (form : Form) (universes : ℕ) where
-  live_allows : (x : List ℕ) (failures : List (Option ℕ)) (r : Result Reading TextFault) → ScriptAllows (Live universes) x failures r
-  live_allows x failures (Ok reading) = each_allowed failures (begin_at (begun (opened reading.show))) (answered_lines (script_of x))
-  live_allows x failures (Err fault) = tt
-
-  whole_at : {K : Type 0} (told : ToldBySink K) (x y : List ℕ) (reading : Reading) (h h' : Option (List ℕ))
-      (outlets outlets' : List (Option K)) → reads form x ≡ Ok reading → script_of x ≡ lines_of y
-      → length (input_wanted form x) ≤ INPUT_BYTES → PlaysScript ample.edits told reading.show universes (lines_of y) h h' outlets outlets'
-      → PlaysWhole ample.edits told universes form x h h' outlets outlets'
-  whole_at told x y reading h h' outlets outlets' read script fits a = record {
-    reading = reading;
-    read = read;
-    failures = a.failures;
-    allows = subst (λ (ls : List (List ℕ)). LiveAllows ample.edits reading.show ls a.failures (live_session reading.show ls a.failures).state.accepted)
-        (sym script) a.allows;
-    text = subst (λ (ls : List (List ℕ)). Appends h h' (live_session reading.show ls a.failures).text) (sym script) a.text;
-    versions = subst (λ (ls : List (List ℕ)). HaveVersions told reading.show universes outlets outlets'
-        (live_session reading.show ls a.failures).state.accepted) (sym script) a.versions;
-    within = fits;
-  }
-
-  prefix_at : {K : Type 0} (told : ToldBySink K) (x y : List ℕ) (reading : Reading) (h h' : Option (List ℕ))
-      (outlets outlets' : List (Option K)) → reads form x ≡ Ok reading → script_of x ≡ lines_of y
-      → PlaysInFront ample told reading.show universes (lines_of y) h h' outlets outlets'
+-- Of a show that was read, and a script behind it that was played.
+module _ {form : Form} {x y : List ℕ} {taken : ℕ} {reading : Reading} (v : IsRead form x y taken reading) (ample : AmpleMemory) {K : Type 0}
+    (told : ToldBySink K) (universes : ℕ) (h h' : Option (List ℕ)) (outlets outlets' : List (Option K)) where
+  lives_in_front : PlaysInFront ample told reading.show universes (lines_of y) h h' outlets outlets'
       → WritesPrefix (Script (Live universes) form) x h h' × LivesInFront ample told universes form x h h' outlets outlets'
-  prefix_at told x y reading h h' outlets outlets' read script a =
-      let plays : PlaysInFront ample told reading.show universes (script_of x) h h' outlets outlets' =
-      subst (λ (ls : List (List ℕ)). PlaysInFront ample told reading.show universes ls h h' outlets outlets') (sym script) a in
-      let front = front_of_whole (desk_answering false) (desk_lawful false) (begun (opened reading.show)) (script_of x) plays.failures
-      plays.lines h h' plays.text in (
+  lives_in_front a = (
+    front_at v false (Live universes) (record {
+      failures = a.failures;
+      allows = each_allowed a.failures (begin_at (begun (opened reading.show))) (answered_lines (lines_of y));
+      text = front_of_whole (desk_answering false) (desk_lawful false) (begun (opened reading.show)) (lines_of y) a.failures a.lines h h' a.text;
+    }),
+    record { reading = reading; read = v.read; plays = rw v.script a },
+  )
+
+  lives_taken : (left : Option (List ℕ)) → PlaysTaken ample told reading.show universes taken y left h h' outlets outlets'
+      → HasEnded status.ReadFault (Script (Live universes) form) x left h h' × LivesTaken ample told universes form x left h h' outlets outlets'
+  lives_taken left a =
+      let n = a.cut.lines in
+      let done : length v.raws + n - lines_read (lines_of x) ≡ n = taken_is v n in (
+        taken_at v false (Live universes) (record {
+          failures = a.failures;
+          allows = each_allowed a.failures (begin_at (begun (opened reading.show))) (answered_lines (lines_of y));
+          cut = a.cut;
+          short = a.short;
+          text = a.text;
+        }),
         record {
-          failures = plays.failures;
-          allows = live_allows x plays.failures (reads form x);
-          text = subst (λ (t : List ℕ). AppendsFront h h' t)
-              (sym (ap (λ r. over_show r (λ z. (live_session z.show (script_of x) plays.failures).text)) read)) front;
+          reading = reading;
+          read = v.read;
+          failures = a.failures;
+          cut = cut_from v a.cut;
+          short = short_of v n a.short;
+          allows = rw (done, v.script) a.allows;
+          text = rw (done, v.script) a.text;
+          served = rw (done, v.script) a.served;
         },
-        record { reading = reading; read = read; plays = plays },
       )
 
-  taken_at : {K : Type 0} (told : ToldBySink K) (x y : List ℕ) (left h h' : Option (List ℕ))
-      (outlets outlets' : List (Option K)) (i j : ℕ) (raws : List (List ℕ)) (reading : Reading) → i ≡ 0
-      → LinesBetween (Some x) (Some y) i j raws
-      → lines_read (lines_of x) ≡ length raws → reads form x ≡ Ok reading → script_of x ≡ lines_of y
-      → PlaysTaken ample told reading.show universes j y left h h' outlets outlets' → LivesTaken ample told universes form x left h h' outlets outlets'
-  taken_at told x y left h h' outlets outlets' i j raws reading none took shown text script a =
-      let n = a.cut.lines in
-      let done : n ≡ length raws + n - lines_read (lines_of x) = omega (arith, shown) in
+  -- how the run ended, by its status
+  has_lived : (left : Option (List ℕ)) (s : Status) → HasPlayedLive ample s told reading.show universes taken y left h h' outlets outlets'
+      → HasLived ample s told universes form x left h h' outlets outlets'
+  has_lived left status.Ok p =
+      let a : PlaysScript ample.edits told reading.show universes (script_of x) h h' outlets outlets' = rw v.script p.0 in
       record {
         reading = reading;
-        read = text;
+        read = v.read;
         failures = a.failures;
-        cut = cut_from x y left i j raws none took a.cut;
-        short =
-            let s = ap lines_wanted script in
-            let m = a.short in
-            omega (arith, s, m, shown);
-        allows = subst (λ (k : ℕ). LiveAllows ample.edits reading.show (script_of x) a.failures
-            (live_after reading.show (script_of x) a.failures k).state.accepted) done
-            (subst (λ (ls : List (List ℕ)). LiveAllows ample.edits reading.show ls a.failures
-            (live_after reading.show ls a.failures n).state.accepted) (sym script) a.allows);
-        text = subst (λ (k : ℕ). Appends h h' (live_after reading.show (script_of x) a.failures k).text) done
-            (subst (λ (ls : List (List ℕ)). Appends h h' (live_after reading.show ls a.failures n).text) (sym script) a.text);
-        served = subst (λ (k : ℕ). AreServed ample.versions told reading.show universes outlets outlets'
-            (live_after reading.show (script_of x) a.failures k).state.accepted) done
-            (subst (λ (ls : List (List ℕ)). AreServed ample.versions told reading.show universes outlets outlets'
-            (live_after reading.show ls a.failures n).state.accepted) (sym script) a.served);
+        allows = a.allows;
+        text = a.text;
+        versions = a.versions;
+        within = let w = p.1 in omega (arith, wanted_read v, w);
       }
-
-  -- the same, as it is told of a job
-  as_taken : {K : Type 0} (told : ToldBySink K) (x : List ℕ) (left h h' : Option (List ℕ)) (outlets outlets' : List (Option K))
-      → LivesTaken ample told universes form x left h h' outlets outlets' → RepliesToTaken false (Script (Live universes) form) x left h h'
-  as_taken told x left h h' outlets outlets' a = record {
-    failures = a.failures;
-    allows = live_allows x a.failures (reads form x);
-    cut = a.cut;
-    short = let w = ap (input_lines_wanted x) a.read in let m = a.short in omega (arith, w, m);
-    text = subst (λ (t : List ℕ). Appends h h' t)
-        (sym (ap (λ r. first_replies (Live universes) x a.failures (a.cut.lines - lines_read (lines_of x)) r) a.read)) a.text;
-  }
-
-  -- a script over a show that was read
-  pub live_ended : {S K : Type 0} (told_in : ToldBySource S) (told : ToldBySink K)
-      (a b : Lines S) (loaded : Loaded) (o rest h h' : Option (List ℕ)) (outlets outlets' : List (Option K)) (s : Status)
-      → unread told_in a ≡ o → a.taken ≡ 0 → HasRead told_in a b form loaded
-      → IfSome (unread told_in b) (λ y. HasPlayedLive ample s told loaded.show universes b.taken y rest h h' outlets outlets')
-      → IfSome o (λ x. HasLived ample s told universes form x rest h h' outlets outlets')
-  live_ended told_in told a b loaded o rest h h' outlets outlets' status.Ok is none r p =
-      both_known o _ _ _ (session_fits form told_in a b loaded o is none r (if_known (unread told_in b) _ _ p (λ y q. q.1)))
-      (over_loaded form told_in a b loaded o (λ y. PlaysScript ample.edits told loaded.show universes (lines_of y) h h' outlets outlets')
-      (λ x. length (input_wanted form x) ≤ INPUT_BYTES → PlaysWhole ample.edits told universes form x h h' outlets outlets') is r
-      (if_known (unread told_in b) _ _ p (λ y q. q.0))
-      (λ x y raws took shown text script q fits. whole_at told x y (reading_of loaded) h h' outlets outlets' text script fits q))
-      (λ x fits f. f fits)
-  live_ended told_in told a b loaded o rest h h' outlets outlets' status.ReadFault is none r p =
-      over_loaded form told_in a b loaded o (λ y. PlaysTaken ample told loaded.show universes b.taken y rest h h' outlets outlets') _ is r p
-      (λ x y raws took shown text script q.
-      let taken = taken_at told x y rest h h' outlets outlets' a.taken b.taken raws (reading_of loaded) none took shown text
-      script q in
-      (as_taken told x rest h h' outlets outlets' taken, inr taken))
-  live_ended told_in told a b loaded o rest h h' outlets outlets' status.InputTooLong is none r p =
-      both_known o _ _ _ (over_loaded form told_in a b loaded o (λ y. PlaysTaken ample told loaded.show universes b.taken y rest h h' outlets
-      outlets') (λ x. LivesTaken ample told universes form x rest h h' outlets outlets') is r (if_known (unread told_in b) _ _ p (λ y q. q.0))
-      (λ x y raws took shown text script q. taken_at told x y rest h h' outlets outlets' a.taken b.taken raws
-      (reading_of loaded) none took shown text script q))
-      (session_long form told_in a b loaded o is none r (if_known (unread told_in b) _ _ p (λ y q. q.1)))
-      (λ x taken long. ((as_taken told x rest h h' outlets outlets' taken, long), inr taken))
-  live_ended told_in told a b loaded o rest h h' outlets outlets' status.WriteFault is none r p =
-      over_loaded form told_in a b loaded o (λ y. PlaysInFront ample told loaded.show universes (lines_of y) h h' outlets outlets') _ is r p
-      (λ x y raws took shown text script q. let w =
-      prefix_at told x y (reading_of loaded) h h' outlets outlets' text script q in (w.0, inr w.1))
-  live_ended told_in told a b loaded o rest h h' outlets outlets' status.Memory is none r p =
-      over_loaded form told_in a b loaded o (λ y. ((h' ≡ h) × (outlets' ≡ outlets))
-      ⊎ PlaysInFront ample told loaded.show universes (lines_of y) h h' outlets outlets') _ is r p (λ x y raws took shown text script q. elim q [
-        | inl kept ↦ (unwritten_as false (Script (Live universes) form) x h h' kept.0, inl (kept.1, λ ok. kept.0))
-        | inr plays ↦ let w = prefix_at told x y (reading_of loaded) h h' outlets outlets' text script plays in
-            (w.0, inr w.1)
-      ])
-  live_ended told_in told a b loaded o rest h h' outlets outlets' s is none r p =
-      over_loaded form told_in a b loaded o (λ y. ⊥) _ is r p (λ x y raws took shown text script q. absurd q)
-
-  -- why no line of a script was answered, by the status
-  abbrev Unanswered : Status → List ℕ → (rest h h' : Option (List ℕ)) → Type 0
-  Unanswered status.ReadFault x rest h h' = NothingOfCut x rest h h'
-  Unanswered status.InputTooLong x rest h h' = NothingOfCut x rest h h'
-  Unanswered status.WriteFault x rest h h' = IsErr (reads form x)
-  Unanswered other x rest h h' = IsOk (reads form x) → h' ≡ h
-
-  refused_at : {K : Type 0} (told : ToldBySink K) (x : List ℕ) (rest h h' : Option (List ℕ))
-      (outlets : List (Option K)) (fault : ShowFault) (s : Status)
-      → RefusedBy h h' fault s → HasEnded s (Script (Live universes) form) x rest h h' → Unanswered s x rest h h'
-      → HasLived ample s told universes form x rest h h' outlets outlets
-  refused_at told x rest h h' outlets fault status.Ok by e none = refusal_isnt_ok h h' fault status.Ok _ by refl
-  refused_at told x rest h h' outlets fault status.ShowRefused by e none = (e, refl)
-  refused_at told x rest h h' outlets fault status.Usage by e none = absurd e
-  refused_at told x rest h h' outlets fault status.Live by e none = absurd (refusal_ends h h' fault status.Live by)
-  refused_at told x rest h h' outlets fault s by e none = (e, inl (refl, none))
-
-  -- of a show that isn't read, no script line is answered
-  none_answered : (o h h' : Option (List ℕ)) (text : TextFault) → IfSome o (λ x. reads form x ≡ Err text)
-      → IfSome o (λ x. IsOk (reads form x) → h' ≡ h)
-  none_answered o h h' text refused = if_known o _ _ refused (λ x e ok. let bad : false ≡ true = subst (λ r. IsOk r) e ok in absurd cc)
-
-  all_none : (o h h' : Option (List ℕ)) → h' ≡ h → IfSome o (λ x. IsOk (reads form x) → h' ≡ h)
-  all_none None h h' kept = tt
-  all_none (Some x) h h' kept = λ ok. kept
-
-  -- of one that couldn't be read on, it was cut off; and a write failed only of the line of one that is refused
-  cut_off : {S : Type 0} (told : ToldBySource S) (a b : Lines S) (o h h' : Option (List ℕ)) (fault : ShowFault) (s : Status)
-      → unread told a ≡ o → a.taken ≡ 0 → Says form told a b fault → RefusedBy h h' fault s
-      → (s ≡ status.ReadFault) ⊎ (s ≡ status.InputTooLong) → IfSome o (λ x. NothingOfCut x (told.left b.source.now) h h')
-  cut_off told a b o h h' fault s is none says by cut =
-      refusal_cut form false (Check form) ((check_tells form).over) told a b o h h' fault s is none says by cut
-
-  isnt_shown : {S : Type 0} (told : ToldBySource S) (a b : Lines S) (o h h' : Option (List ℕ)) (fault : ShowFault)
-      → unread told a ≡ o → Says form told a b fault → RefusedBy h h' fault status.WriteFault → IfSome o (λ x. IsErr (reads form x))
-  isnt_shown told a b o h h' fault is says by = elim by [
-    | inl text ↦ subst (λ (v : Option (List ℕ)). IfSome v (λ x. IsErr (reads form x))) is
-        (if_known (unread told a) _ _ (means_of form told a b fault text.text text.told says).text
-        (λ x e. subst (λ (r : Result Reading TextFault). IsErr r) (sym e) refl))
-    | inr other ↦ absurd (no_write fault other.is)
+  has_lived left status.ReadFault p = let w = lives_taken left p in (w.0, inr w.1)
+  has_lived left status.InputTooLong p = let w = lives_taken left p.0 in ((w.0, let l = p.1 in omega (arith, wanted_read v, l)), inr w.1)
+  has_lived left status.WriteFault p = let w = lives_in_front p in (w.0, inr w.1)
+  has_lived left status.Memory p = elim p [
+    | inl kept ↦ (unwritten_as false (Script (Live universes) form) x h h' kept.0, inl (kept.1, λ ok. kept.0))
+    | inr plays ↦ let w = lives_in_front plays in (w.0, inr w.1)
   ]
+  has_lived left s p = absurd p
 
-  unanswered : {S : Type 0} (told : ToldBySource S) (a b : Lines S) (o h h' : Option (List ℕ)) (fault : ShowFault) (s : Status)
-      → unread told a ≡ o → Says form told a b fault → RefusedBy h h' fault s → IfSome o (λ x. IsOk (reads form x) → h' ≡ h)
-  unanswered told a b o h h' fault s is says by = elim by [
-    | inl text ↦ subst (λ (v : Option (List ℕ)). IfSome v (λ x. IsOk (reads form x) → h' ≡ h)) is
-        (none_answered (unread told a) h h' text.text (means_of form told a b fault text.text text.told says).text)
-    | inr other ↦ all_none o h h' other.kept
-  ]
-
-  by_status : {S : Type 0} (told : ToldBySource S) (a b : Lines S) (o h h' : Option (List ℕ)) (fault : ShowFault) (s : Status)
-      → unread told a ≡ o → a.taken ≡ 0 → Says form told a b fault → RefusedBy h h' fault s
-      → IfSome o (λ x. Unanswered s x (told.left b.source.now) h h')
-  by_status told a b o h h' fault status.ReadFault is none says by =
-      cut_off told a b o h h' fault status.ReadFault is none says by (inl refl)
-  by_status told a b o h h' fault status.InputTooLong is none says by =
-      cut_off told a b o h h' fault status.InputTooLong is none says by (inr refl)
-  by_status told a b o h h' fault status.WriteFault is none says by = isnt_shown told a b o h h' fault is says by
-  by_status told a b o h h' fault s is none says by = unanswered told a b o h h' fault s is says by
-
-  -- a show that isn't read
-  pub refused_lived : {S K : Type 0} (told_in : ToldBySource S) (told : ToldBySink K) (a b : Lines S)
-      (o h h' : Option (List ℕ)) (outlets : List (Option K)) (fault : ShowFault) (s : Status)
-      → unread told_in a ≡ o → a.taken ≡ 0 → Says form told_in a b fault → RefusedBy h h' fault s
-      → IfSome o (λ x. HasLived ample s told universes form x (told_in.left b.source.now) h h' outlets outlets)
-  refused_lived told_in told a b o h h' outlets fault s is none says by =
-      both_known o _ _ _ (refusal_ended false form (Script (Live universes) form) (script_over form (Live universes)) told_in a b o h h' fault s is none says by)
-      (by_status told_in a b o h h' fault s is none says by)
-      (λ x e unread. refused_at told x (told_in.left b.source.now) h h' outlets fault s by e unread)
-
--- In which order the faults of a live run are told, over a show that was read.
-module _ (ample : AmpleMemory) (form : Form) (universes : ℕ) {O K : Type 0} (told : ToldBySink K)
-    (told_out : ToldBySink O) (output output' : O) (h h' : Option (List ℕ)) (outlets outlets' : List (Option K)) where
-  abbrev ToEnd : Show → List ℕ → ℕ → (List (Option SinkFault) → ℕ → Type 0) → Type 0
-  ToEnd show bytes before Told = PlaysToEnd ample Told told show universes (lines_of bytes) h h' outlets outlets'
-      × (before + length (bytes_wanted bytes) ≤ INPUT_BYTES)
-
-  abbrev LivesTo : List ℕ → (List (Option SinkFault) → ℕ → Type 0) → Type 0
-  LivesTo x Told = LivesToEnd ample Told told universes form x h h' outlets outlets'
-
-  lives_to : (Told : List (Option SinkFault) → ℕ → Type 0) (x y : List ℕ) (i j : ℕ) (raws : List (List ℕ)) (reading : Reading) → i ≡ 0
-      → LinesBetween (Some x) (Some y) i j raws → lines_read (lines_of x) ≡ length raws → reads form x ≡ Ok reading
-      → script_of x ≡ lines_of y → ToEnd reading.show y j Told → LivesTo x Told
-  lives_to Told x y i j raws reading none took shown read script p = record {
+  -- and in which order its faults are told
+  lives_to : {Told : List (Option SinkFault) → ℕ → Type 0} → PlaysToEnd ample Told told reading.show universes (lines_of y) h h' outlets outlets'
+      × (taken + length (bytes_wanted y) ≤ INPUT_BYTES) → LivesToEnd ample Told told universes form x h h' outlets outlets'
+  lives_to e = record {
     reading = reading;
-    read = read;
-    plays = subst (λ (ls : List (List ℕ)). PlaysToEnd ample Told told reading.show universes ls h h' outlets outlets') (sym script) p.0;
-    within = let w = p.1 in omega (arith, wanted_read form x y i j raws reading none took shown read script, w);
+    read = v.read;
+    plays = rw v.script e.0;
+    within = let w = e.1 in omega (arith, wanted_read v, w);
   }
 
-  order_on : (s : Status) (reads reads' reads'' : ℕ) (P Q : (List (Option SinkFault) → ℕ → Type 0) → Type 0) → reads' ≡ reads
-      → ((Told : List (Option SinkFault) → ℕ → Type 0) → P Told → Q Told)
-      → DecidesInOrder s reads' reads'' told_out output output' outlets outlets' P
-      → DecidesInOrder s reads reads'' told_out output output' outlets outlets' Q
-  order_on status.WriteFault reads reads' reads'' P Q same f p = elim p [
+  order_on : {O : Type 0} (told_out : ToldBySink O) (output output' : O) (s : Status) (reads reads' reads'' : ℕ) → reads' ≡ reads
+      → DecidesInOrder s reads' reads'' told_out output output' outlets outlets' (λ Told. PlaysToEnd ample Told told reading.show universes
+      (lines_of y) h h' outlets outlets' × (taken + length (bytes_wanted y) ≤ INPUT_BYTES))
+      → DecidesInOrder s reads reads'' told_out output output' outlets outlets' (λ Told. LivesToEnd ample Told told universes form x h h' outlets
+      outlets')
+  order_on told_out output output' status.WriteFault reads reads' reads'' same p = elim p [
     | inl failed ↦ inl failed
-    | inr q ↦ inr (
-      record {
-        reads_kept = q.0.reads_kept ∙ same;
-        writes_kept = q.0.writes_kept;
-        wants_kept = q.0.wants_kept;
-        handed_on = q.0.handed_on;
-      },
-      f (λ results unsent. HasFailedOutlet results) q.1,
-    )
+    | inr q ↦ inr (subst (λ (k : ℕ). NoneRose k reads'' told_out output output') same q.0, lives_to q.1)
   ]
-  order_on status.Memory reads reads' reads'' P Q same f p = elim p [
+  order_on told_out output output' status.Memory reads reads' reads'' same p = elim p [
     | inl wanted ↦ inl wanted
-    | inr q ↦ inr (
-      record {
-        reads_kept = q.0.reads_kept ∙ same;
-        writes_kept = q.0.writes_kept;
-        wants_kept = q.0.wants_kept;
-        handed_on = q.0.handed_on;
-      },
-      f LacksMemory q.1,
-    )
+    | inr q ↦ inr (subst (λ (k : ℕ). NoneRose k reads'' told_out output output') same q.0, lives_to q.1)
   ]
-  order_on s reads reads' reads'' P Q same f p = tt
+  order_on told_out output output' s reads reads' reads'' same p = tt
 
-  pub live_order : {S : Type 0} (told_in : ToldBySource S) (a b : Lines S) (loaded : Loaded) (o : Option (List ℕ))
-      (s : Status) (reads reads' reads'' : ℕ) → unread told_in a ≡ o → a.taken ≡ 0 → HasRead told_in a b form loaded → reads' ≡ reads
-      → IfSome (unread told_in b) (λ y. DecidesInOrder s reads' reads'' told_out output output' outlets outlets' (ToEnd loaded.show y b.taken))
-      → IfSome o (λ x. DecidesInOrder s reads reads'' told_out output output' outlets outlets' (LivesTo x))
-  live_order told_in a b loaded o s reads reads' reads'' is none r same p =
-      over_loaded form told_in a b loaded o (λ y. DecidesInOrder s reads' reads'' told_out output output' outlets outlets'
-      (ToEnd loaded.show y b.taken)) _ is r p
-      (λ x y raws took shown read script q. order_on s reads reads' reads'' (ToEnd loaded.show y b.taken) (LivesTo x) same
-      (λ Told. lives_to Told x y a.taken b.taken raws (reading_of loaded) none took shown read script) q)
+-- The same from the lines before the show and behind it.
+module _ {form : Form} {S : Type 0} {told_in : ToldBySource S} {a b : Lines S} {loaded : Loaded} (r : HasRead told_in a b form loaded)
+    (none : a.taken ≡ 0) (ample : AmpleMemory) {K : Type 0} (told : ToldBySink K) (universes : ℕ) (h h' : Option (List ℕ))
+    (outlets outlets' : List (Option K)) (s : Status) where
+  pub live_ended : (rest : Option (List ℕ))
+      → IfSome (unread told_in b) (λ y. HasPlayedLive ample s told loaded.show universes b.taken y rest h h' outlets outlets')
+      → IfSome (unread told_in a) (λ x. HasLived ample s told universes form x rest h h' outlets outlets')
+  live_ended rest p = over_loaded r none p (λ x y v q. has_lived v ample told universes h h' outlets outlets' rest s q)
 
--- and of one that wasn't
-order_refused : {O K : Type 0} (s : Status) (reads reads' : ℕ) (told : ToldBySink O) (output output' : O) (outlets : List (Option K))
+  pub live_order : {O : Type 0} (told_out : ToldBySink O) (output output' : O) (reads reads' reads'' : ℕ) → reads' ≡ reads
+      → IfSome (unread told_in b) (λ y. DecidesInOrder s reads' reads'' told_out output output' outlets outlets' (λ Told. PlaysToEnd ample Told
+      told loaded.show universes (lines_of y) h h' outlets outlets' × (b.taken + length (bytes_wanted y) ≤ INPUT_BYTES)))
+      → IfSome (unread told_in a) (λ x. DecidesInOrder s reads reads'' told_out output output' outlets outlets' (λ Told. LivesToEnd ample Told
+      told universes form x h h' outlets outlets'))
+  live_order told_out output output' reads reads' reads'' same p = over_loaded r none p
+      (λ x y v q. order_on v ample told universes h h' outlets outlets' told_out output output' s reads reads' reads'' same q)
+
+-- A show that isn't read: its text has a fault, or it couldn't be read, and then nothing was written, and no write failed.
+abbrev Unanswered : Form → (h h' : Option (List ℕ)) → Status → List ℕ → Type 0
+Unanswered form h h' s x = ((text : TextFault) × (reads form x ≡ Err text)) ⊎ ((h' ≡ h) × (s ≢ status.WriteFault))
+
+module _ {S K : Type 0} (ample : AmpleMemory) (form : Form) (universes : ℕ) (told_in : ToldBySource S) (told : ToldBySink K) (a b : Lines S)
+    {h h' : Option (List ℕ)} (outlets : List (Option K)) {fault : ShowFault} where
+  refused_at : (s : Status) → RefusedBy h h' fault s → (x : List ℕ) (left : Option (List ℕ))
+      → HasEnded s (Script (Live universes) form) x left h h' → HasEnded s (Check form) x left h h' → Unanswered form h h' s x
+      → HasLived ample s told universes form x left h h' outlets outlets
+  refused_at status.Ok by x left e c u = refusal_isnt_ok _ by refl
+  refused_at status.ShowRefused by x left e c u = (e, refl)
+  refused_at status.ReadFault by x left e c u = (e, inl (refl, c))
+  refused_at status.InputTooLong by x left e c u = (e, inl (refl, c.0))
+  refused_at status.WriteFault by x left e c u = (
+    e,
+    inl (
+      refl,
+      elim u [
+        | inl text ↦ subst (λ (r : Result Reading TextFault). IsErr r) (sym text.1) refl
+        | inr other ↦ absurd (other.1 refl)
+      ],
+    ),
+  )
+  refused_at status.Memory by x left e c u = (
+    e,
+    inl (
+      refl,
+      λ ok. elim u [
+        | inl text ↦ let bad : false ≡ true = subst (λ (r : Result Reading TextFault). IsOk r) text.1 ok in absurd cc
+        | inr other ↦ other.0
+      ],
+    ),
+  )
+  refused_at s by x left e c u = absurd (refusal_ends by)
+
+  pub refused_lived : (s : Status) → a.taken ≡ 0 → Says form told_in a b fault → RefusedBy h h' fault s
+      → IfSome (unread told_in a) (λ x. HasLived ample s told universes form x (told_in.left b.source.now) h h' outlets outlets)
+  refused_lived s none says by =
+      let unanswered : IfSome (unread told_in a) (λ x. Unanswered form h h' s x) = elim by [
+        | inl t ↦ IfSome_then (unread told_in a) (means_of form told_in a b t says).text (λ x e. inl (t.text, e))
+        | inr other ↦ all_known (unread told_in a) _ (λ x. inr (
+          other.kept,
+          kept_is fault s (λ f t. t ≢ status.WriteFault) other.is
+              (λ e. absurd cc) (λ e. absurd cc) (λ e. absurd cc),
+        ))
+      ] in
+      let ended = refusal_ended false (over_all form told_in a b (Script (Live universes) form) (script_over form (Live universes)) none) says by in
+      let cut = refusal_ended false (over_all form told_in a b (Check form) (show_over (check_tells form)) none) says by in
+      both_known (unread told_in a) ended (if_both (unread told_in a) _ _ cut unanswered)
+      (λ x e p. refused_at s by x (told_in.left b.source.now) e p.0 p.1)
+
+-- and in which order its faults are told
+pub order_refused : {O K : Type 0} (s : Status) (reads reads' : ℕ) (told : ToldBySink O) (output output' : O) (outlets : List (Option K))
     (ToEnd : (List (Option SinkFault) → ℕ → Type 0) → Type 0) → (s ≡ status.WriteFault → Rose (told.faults output) (told.faults output'))
     → HasWanted told output output' s → DecidesInOrder s reads reads' told output output' outlets outlets ToEnd
 order_refused status.WriteFault reads reads' told output output' outlets ToEnd write memory = inl (write refl)
@@ -283,18 +180,3 @@ order_refused status.Memory reads reads' told output output' outlets ToEnd write
   | inr rose ↦ inl (inr rose)
 ]
 order_refused s reads reads' told output output' outlets ToEnd write memory = tt
-
-pub all_refused : {O K : Type 0} (o : Option (List ℕ)) (s : Status) (reads reads' : ℕ) (told : ToldBySink O) (output output' : O)
-    (outlets : List (Option K)) (ToEnd : List ℕ → (List (Option SinkFault) → ℕ → Type 0) → Type 0)
-    → (s ≡ status.WriteFault → Rose (told.faults output) (told.faults output')) → HasWanted told output output' s
-    → IfSome o (λ bytes. DecidesInOrder s reads reads' told output output' outlets outlets (ToEnd bytes))
-all_refused None s reads reads' told output output' outlets ToEnd write memory = tt
-all_refused (Some bytes) s reads reads' told output output' outlets ToEnd write memory =
-    order_refused s reads reads' told output output' outlets (ToEnd bytes) write memory
-
--- the status of a refused show isn't that of words
-pub refused_words : (h h' : Option (List ℕ)) (fault : ShowFault) (s : Status) → RefusedBy h h' fault s → s ≢ status.Usage
-refused_words h h' fault s by = λ e. subst (λ (t : Status). EndsJob t) e (refusal_ends h h' fault s by)
-
-pub refused_live : (h h' : Option (List ℕ)) (fault : ShowFault) (s : Status) → RefusedBy h h' fault s → s ≢ status.Live
-refused_live h h' fault s by = λ e. subst (λ (t : Status). EndsJob t) e (refusal_ends h h' fault s by)

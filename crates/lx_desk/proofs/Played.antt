@@ -1,23 +1,23 @@
 -- A script that was played, from what its session came to.
-use Rattle.lx_desk.proofs.Imports.{◌≡◌, ℕ, Result, Ok, Err, HandsOnReplies, Option, IfSome, List, refl, sym, subst, arith, inl, Lines, bytes_taken}
-use Rattle.lx_desk.proofs.Imports.{source_faults, source_left, unread, lines_of, Answering, SessionFault, Tally, HasSessionCause, KeepsLimit, AnsweredPrefix, AnsweredWhole}
-use Rattle.lx_desk.proofs.Imports.{AnsweredTaken, ScriptAnswered, front_of_whole, first_of_whole, Status, status_for, AnswersInFront, AnswersScript, AnswersTaken, HasPlayed}
-use Rattle.lx_desk.proofs.Imports.{Plays, ToldBySink, ToldBySource, ◌≤◌, Bool, false, Appends, AppendsFront, Session, Rose, ByMemory}
+use Rattle.lx_desk.proofs.Imports.{◌≡◌, ℕ, Result, Ok, Err, HandsOnReplies, Option, IfSome, List, subst, Lines, bytes_taken}
+use Rattle.lx_desk.proofs.Imports.{source_left, unread, lines_of, Answering, SessionFault, Tally, HasSessionCause, KeepsLimit, AnsweredPrefix, AnsweredWhole}
+use Rattle.lx_desk.proofs.Imports.{AnsweredTaken, ScriptAnswered, front_of_whole, Status, status_for, AnswersInFront, AnswersScript, AnswersTaken, HasPlayed}
+use Rattle.lx_desk.proofs.Imports.{Plays, ToldBySink, ToldBySource, ◌≤◌, Bool, Appends, AppendsFront, Session, Rose, ByMemory}
 use Rattle.lx_desk.proofs.Imports.{spared, spared_lawful, stood_since}
 use Rattle.lx_desk.proofs.AmpleFailures.{failed_so}
 use Rattle.lx_session.specs.OneAnswer.{IsLawful}
 use Rattle.lx_session.specs.declared.fault.SessionFault.TheVariants as faults
 use Rattle.lx_desk.specs.declared.desk.Status.TheVariants as status
-use Rattle.lx_desk.proofs.Inputs.{whole_front, if_known, both_known, nothing_answered}
-use Rattle.lx_desk.proofs.Statuses.{ends_script, has_cause}
-use Rattle.lx_desk.proofs.Finishing.{not_done, session_finishes, session_wants, session_wanted}
+use Rattle.lx_desk.proofs.Inputs.{IfSome_then, all_known, both_known, nothing_answered}
+use Rattle.lx_desk.proofs.Finishing.{ends_script, none_accounts, session_accounts}
 
 -- Of what answers a line so, from a state on, in a session whose memory was ample, or may not have been.
-module _ (ample : Bool) (by : Answering (List ℕ)) (lawful : IsLawful by) (Stands : by.State → Type 0) (state : by.State) where
+module _ (ample : Bool) (by : Answering (List ℕ)) (lawful : IsLawful by) (Stands : by.State → Type 0) (state : by.State)
+    (h h' : Option (List ℕ)) where
   -- However it ended, it answered by a prefix.
-  front_by : (bytes : List ℕ) (unread h h' : Option (List ℕ)) → AnsweredPrefix (spared ample by) Stands state bytes unread h h'
+  front_by : (bytes : List ℕ) (unread : Option (List ℕ)) → AnsweredPrefix (spared ample by) Stands state bytes unread h h'
       → AnswersInFront ample by state (lines_of bytes) h h'
-  front_by bytes unread h h' a =
+  front_by bytes unread a =
       let f = failed_so ample by state (lines_of bytes) a.failures a.allows in
       record {
         failures = f.failed;
@@ -26,21 +26,10 @@ module _ (ample : Bool) (by : Answering (List ℕ)) (lawful : IsLawful by) (Stan
             (front_of_whole (spared ample by) (spared_lawful ample by lawful) state (lines_of bytes) a.failures a.lines h h' a.text);
       }
 
-  taken_front : (before : ℕ) (bytes : List ℕ) (left h h' : Option (List ℕ))
-      → AnsweredTaken (spared ample by) Stands state before bytes left h h' → AnswersInFront ample by state (lines_of bytes) h h'
-  taken_front before bytes left h h' a =
-      let f = failed_so ample by state (lines_of bytes) a.failures a.allows in
-      record {
-        failures = f.failed;
-        allows = f.allows;
-        text = subst (λ (s : Session by.State). AppendsFront h h' s.text) f.whole
-            (first_of_whole (spared ample by) (spared_lawful ample by lawful) state (lines_of bytes) a.failures a.cut.lines h h' a.text);
-      }
-
   -- It ended well, and answered wholly.
-  whole_by : (script : List (List ℕ)) (h h' : Option (List ℕ)) (tally : Tally)
-      → AnsweredWhole (spared ample by) Stands state script h h' tally → AnswersScript ample by state script h h'
-  whole_by script h h' tally a =
+  whole_by : (script : List (List ℕ)) (tally : Tally) → AnsweredWhole (spared ample by) Stands state script h h' tally
+      → AnswersScript ample by state script h h'
+  whole_by script tally a =
       let f = failed_so ample by state script a.failures a.allows in
       record {
         failures = f.failed;
@@ -48,23 +37,10 @@ module _ (ample : Bool) (by : Answering (List ℕ)) (lawful : IsLawful by) (Stan
         text = subst (λ (s : Session by.State). Appends h h' s.text) f.whole a.text;
       }
 
-  front_is : (script : List (List ℕ)) (h h' : Option (List ℕ)) → AnswersScript ample by state script h h'
-      → AnswersInFront ample by state script h h'
-  front_is script h h' a = record { failures = a.failures; allows = a.allows; text = whole_front h h' _ a.text }
-
-  answered_front : (before : ℕ) (o unread left h h' : Option (List ℕ)) (r : Result Tally SessionFault)
-      → IfSome o (λ bytes. ScriptAnswered (spared ample by) Stands state before bytes unread left h h' r)
-      → IfSome o (λ bytes. AnswersInFront ample by state (lines_of bytes) h h')
-  answered_front before o unread left h h' (Ok tally) p =
-      if_known o _ _ p (λ xs a. front_is (lines_of xs) h h' (whole_by (lines_of xs) h h' tally a))
-  answered_front before o unread left h h' (Err faults.ReadFault) p = if_known o _ _ p (λ xs a. taken_front before xs left h h' a)
-  answered_front before o unread left h h' (Err faults.InputTooLong) p = if_known o _ _ p (λ xs a. taken_front before xs left h h' a)
-  answered_front before o unread left h h' (Err fault) p = if_known o _ _ p (λ xs a. front_by xs unread h h' a)
-
   -- Where the script couldn't be read on, it answered what was taken of it.
-  taken_by : (before : ℕ) (bytes : List ℕ) (left h h' : Option (List ℕ))
-      → AnsweredTaken (spared ample by) Stands state before bytes left h h' → AnswersTaken ample by state before bytes left h h'
-  taken_by before bytes left h h' a =
+  taken_by : (before : ℕ) (bytes : List ℕ) (left : Option (List ℕ)) → AnsweredTaken (spared ample by) Stands state before bytes left h h'
+      → AnswersTaken ample by state before bytes left h h'
+  taken_by before bytes left a =
       let f = failed_so ample by state (lines_of bytes) a.failures a.allows in
       record {
         failures = f.failed;
@@ -75,54 +51,40 @@ module _ (ample : Bool) (by : Answering (List ℕ)) (lawful : IsLawful by) (Stan
       }
 
   -- What the status of a session says of the script.
-  has_played : (before : ℕ) (o unread left h h' : Option (List ℕ)) (r : Result Tally SessionFault)
+  has_played : (before : ℕ) (o unread left : Option (List ℕ)) (r : Result Tally SessionFault)
       → IfSome o (λ bytes. ScriptAnswered (spared ample by) Stands state before bytes unread left h h' r)
       → IfSome o (λ bytes. KeepsLimit before bytes r)
       → IfSome o (λ bytes. HasPlayed ample (status_for r) by state before bytes left h h')
-  has_played before o unread left h h' (Ok tally) p limit =
-      both_known o _ _ _ p limit (λ xs a fits. (whole_by (lines_of xs) h h' tally a, fits))
-  has_played before o unread left h h' (Err faults.ReadFault) p limit = if_known o _ _ p (λ xs a. taken_by before xs left h h' a)
-  has_played before o unread left h h' (Err faults.InputTooLong) p limit =
-      both_known o _ _ _ p limit (λ xs a long. (taken_by before xs left h h' a, long))
-  has_played before o unread left h h' (Err fault) p limit = if_known o _ _ p (λ xs a. front_by xs unread h h' a)
+  has_played before o unread left (Ok tally) p limit = both_known o p limit (λ xs a fits. (whole_by (lines_of xs) tally a, fits))
+  has_played before o unread left (Err faults.ReadFault) p limit = IfSome_then o p (λ xs a. taken_by before xs left a)
+  has_played before o unread left (Err faults.InputTooLong) p limit = both_known o p limit (λ xs a long. (taken_by before xs left a, long))
+  has_played before o unread left (Err fault) p limit = IfSome_then o p (λ xs a. front_by xs unread a)
 
-module _ (by : Answering (List ℕ)) (lawful : IsLawful by) (Stands : by.State → Type 0) (state : by.State) where
-  -- A session was held, by a heap that had refused so much before the opening, before the session and after it.
-  pub session_plays : {S K : Type 0} (told_in : ToldBySource S) (told_out : ToldBySink K) (first before after : ℕ)
-      (old new : Lines S) (output output' : K) (r : Result Tally SessionFault) (s : Status) → s ≡ status_for r → first ≤ before → before ≤ after
-      → ByMemory before after (λ ample. IfSome (unread told_in old) (λ bytes. ScriptAnswered (spared ample by) Stands state (bytes_taken old) bytes
-      (unread told_in new) (source_left told_in new) (told_out.holds output) (told_out.holds output') r))
-      → IfSome (unread told_in old) (λ bytes. KeepsLimit (bytes_taken old) bytes r)
-      → HasSessionCause told_in told_out old new output output' r → HandsOnReplies r (told_out.back output')
-      → Plays told_in told_out first after by state old new output output' s
-  session_plays told_in told_out first before after old new output output' r s is opened held outcome limit cause none =
-      subst (λ t. Plays told_in told_out first after by state old new output output' t) (sym is) (record {
-        works = ends_script r;
-        ended = λ ample stood. has_played ample by lawful Stands state (bytes_taken old) (unread told_in old) (unread told_in new)
-            (source_left told_in new) (told_out.holds output) (told_out.holds output') r
-            (outcome ample (λ is_ample. stood_since first before after opened (stood is_ample))) limit;
-        front = answered_front false by lawful Stands state (bytes_taken old) (unread told_in old) (unread told_in new) (source_left told_in new)
-            (told_out.holds output) (told_out.holds output') r (outcome false (λ no. absurd cc));
-        later = cause.later;
-        cause = has_cause told_in told_out old new output output' r cause;
-        finished = session_finishes told_in told_out old new output output' r cause none;
-        memory = session_wants told_in told_out old new output output' r cause;
-        wanted = session_wanted told_in told_out first after old new output output' r cause;
-        refused_later = omega (arith, opened, held);
-      })
+-- A session was held, by a heap that had refused so much before the opening, before the session and after it.
+pub session_plays : {by : Answering (List ℕ)} (lawful : IsLawful by) (Stands : by.State → Type 0) {state : by.State} {S K : Type 0}
+    {told_in : ToldBySource S} {told_out : ToldBySink K} {first : ℕ} (before after : ℕ) {old new : Lines S} {output output' : K}
+    {r : Result Tally SessionFault} {s : Status} → s ≡ status_for r → first ≤ before → before ≤ after
+    → ByMemory before after (λ ample. IfSome (unread told_in old) (λ bytes. ScriptAnswered (spared ample by) Stands state (bytes_taken old) bytes
+    (unread told_in new) (source_left told_in new) (told_out.holds output) (told_out.holds output') r))
+    → IfSome (unread told_in old) (λ bytes. KeepsLimit (bytes_taken old) bytes r)
+    → HasSessionCause told_in told_out old new output output' r → HandsOnReplies r (told_out.back output')
+    → Plays told_in told_out first after by state old new output output' s
+session_plays {by} lawful Stands {state} {told_in} {told_out} {first} before after {old} {new} {output} {output'} {r} is opened held outcome limit
+    cause none = rw is (record {
+      works = ends_script r;
+      ended = λ ample stood. has_played ample by lawful Stands state (told_out.holds output) (told_out.holds output') (bytes_taken old)
+          (unread told_in old) (unread told_in new) (source_left told_in new) r
+          (outcome ample (λ is_ample. stood_since first before after opened (stood is_ample))) limit;
+      accounts = session_accounts before r opened held cause none;
+    })
 
 -- Memory was short at the opening: nothing was read or written.
-pub nothing_plays : {S K : Type 0} (by : Answering (List ℕ)) (state : by.State) (told_in : ToldBySource S)
-    (told_out : ToldBySink K) (before after : ℕ) (lines : Lines S) (output : K) → before ≤ after → Rose before after
+pub nothing_plays : {S K : Type 0} {by : Answering (List ℕ)} {state : by.State} {told_in : ToldBySource S}
+    {told_out : ToldBySink K} {before after : ℕ} {lines : Lines S} {output : K} → before ≤ after → Rose before after
     → Plays told_in told_out before after by state lines lines output output status.Memory
-nothing_plays by state told_in told_out before after lines output held rose = record {
+nothing_plays {by} {state} {told_in} {told_out} {lines} {output} held rose = record {
   works = tt;
-  ended = λ ample stood. nothing_answered ample by state (unread told_in lines) (told_out.holds output);
-  front = nothing_answered false by state (unread told_in lines) (told_out.holds output);
-  later = omega arith;
-  cause = refl;
-  finished = not_done (source_faults told_in lines) (source_faults told_in lines) told_out output output status.Memory (λ done. done) (λ other. other);
-  memory = λ is. inl refl;
-  wanted = λ is. inl rose;
-  refused_later = held;
+  ended = λ ample stood. all_known (unread told_in lines) _ (λ bytes.
+      nothing_answered ample by state (lines_of bytes) (told_out.holds output));
+  accounts = none_accounts held rose;
 }

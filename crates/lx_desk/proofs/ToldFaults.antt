@@ -1,40 +1,27 @@
 -- What a search among the faults of outlets, or of operators, says of them.
-use Rattle.lx_desk.proofs.Imports.{◌≡◌, ◌⊎◌, inl, inr, ℕ, zero, suc, Bool, true, false, ◌||◌, Option, Some, None, List, [], ◌∷◌, slice_get, refl, sym}
-use Rattle.lx_desk.proofs.Imports.{ap, ◌∙◌, subst, ◌+◌, ◌<◌, arith, list_any, same_Some, SinkFault, OperatorFault, HasFailedOutlet}
+use Rattle.lx_desk.proofs.Imports.{◌≡◌, inl, inr, ℕ, suc, Bool, true, false, ◌||◌, Option, Some, None, List, [], ◌∷◌, slice_get, slice_get_within, refl, sym}
+use Rattle.lx_desk.proofs.Imports.{ap, ◌∙◌, ◌+◌, ◌<◌, arith, list_any, SinkFault, OperatorFault, HasFailedOutlet}
 use Rattle.std.proofs.Common.{get_or}
-use Rattle.std.proofs.lemmas.Bool.{cases_lt}
+use Rattle.std.proofs.lemmas.Bool.{cases_Bool, cases_lt}
+use Rattle.std.proofs.lemmas.List.Folds.{list_any_at}
+use Rattle.std.proofs.lemmas.Option.{get_or_from_slice_get}
 use Rattle.lx_io.specs.declared.sink.SinkFault.TheVariants as sinks
-
-either : (b : Bool) → (b ≡ true) ⊎ (b ≡ false)
-either true = inl refl
-either false = inr refl
-
-first_not : (a b : Bool) → (a || b) ≡ false → a ≡ false
-first_not true b is = absurd cc
-first_not false b is = refl
-
-second_not : (a b : Bool) → (a || b) ≡ false → b ≡ false
-second_not true b is = absurd cc
-second_not false b is = is
 
 -- one passes the test
 found : (test : Option SinkFault → Bool) (results : List (Option SinkFault)) → list_any test results ≡ true
     → (place : ℕ) × (fault : Option SinkFault) × (slice_get results place ≡ Some fault) × (test fault ≡ true)
 found test [] is = absurd cc
-found test (fault ∷ results) is = elim (either (test fault)) [
+found test (fault ∷ results) is = elim (cases_Bool (test fault)) [
   | inl passes ↦ (0, fault, refl, passes)
   | inr fails ↦ let w = found test results (ap (λ (b : Bool). b || list_any test results) (sym fails) ∙ is) in (suc w.0, w.1, w.2, w.3)
 ]
 
 -- none does
-unfound : (test : Option SinkFault → Bool) (results : List (Option SinkFault)) (place : ℕ) (fault : Option SinkFault)
-    → list_any test results ≡ false → slice_get results place ≡ Some fault → test fault ≡ false
-unfound test [] zero fault is at = absurd cc
-unfound test [] (suc place) fault is at = absurd cc
-unfound test (first ∷ results) zero fault is at =
-    subst (λ (f : Option SinkFault). test f ≡ false) (same_Some first fault at) (first_not (test first) (list_any test results) is)
-unfound test (first ∷ results) (suc place) fault is at =
-    unfound test results place fault (second_not (test first) (list_any test results) is) at
+not_there : (test : Option SinkFault → Bool) (results : List (Option SinkFault)) (place : ℕ) (fault : Option SinkFault)
+    → list_any test results ≡ false → slice_get results place ≡ Some fault → test fault ≡ true → ⊥
+not_there test results place fault is at passes =
+    let there : list_any test results ≡ true = list_any_at test results place None (slice_get_within results place fault at)
+    (ap test (get_or_from_slice_get results place fault None at) ∙ passes) in cc
 
 is_failed : (test : Option SinkFault → Bool) (fault : Option SinkFault) → test None ≡ false → test (Some sinks.Memory) ≡ false
     → test fault ≡ true → fault ≡ Some sinks.Failed
@@ -64,25 +51,16 @@ wanting_outlet test results is none failed =
 -- none did, and none was
 pub no_failed_outlet : (test : Option SinkFault → Bool) (results : List (Option SinkFault)) → list_any test results ≡ false
     → test (Some sinks.Failed) ≡ true → HasFailedOutlet results → ⊥
-no_failed_outlet test results is failed p = let fails = unfound test results p.0 (Some sinks.Failed) is p.1 in cc
+no_failed_outlet test results is failed p = not_there test results p.0 (Some sinks.Failed) is p.1 failed
 
 pub no_fault : (test other : Option SinkFault → Bool) (results : List (Option SinkFault)) → list_any test results ≡ false
     → list_any other results ≡ false → test (Some sinks.Failed) ≡ true → other (Some sinks.Memory) ≡ true
     → (place : ℕ) (fault : Option SinkFault) → slice_get results place ≡ Some fault → fault ≡ None
 no_fault test other results is isnt failed memory place None at = refl
-no_fault test other results is isnt failed memory place (Some sinks.Failed) at =
-    let fails = unfound test results place (Some sinks.Failed) is at in absurd cc
-no_fault test other results is isnt failed memory place (Some sinks.Memory) at =
-    let fails = unfound other results place (Some sinks.Memory) isnt at in absurd cc
+no_fault test other results is isnt failed memory place (Some sinks.Failed) at = absurd (not_there test results place _ is at failed)
+no_fault test other results is isnt failed memory place (Some sinks.Memory) at = absurd (not_there other results place _ isnt at memory)
 
--- a fault that stands at a place, and the faults up to one more
-fault_at : (told : List (Option OperatorFault)) (place : ℕ) (fault : Option OperatorFault) → slice_get told place ≡ Some fault
-    → get_or told place None ≡ fault
-fault_at [] zero fault at = absurd cc
-fault_at [] (suc place) fault at = absurd cc
-fault_at (first ∷ told) zero fault at = same_Some first fault at
-fault_at (first ∷ told) (suc place) fault at = fault_at told place fault at
-
+-- no fault up to one more
 pub none_up_to : (told : List (Option OperatorFault)) (count : ℕ)
     → ((place : ℕ) (fault : Option OperatorFault) → place < count → slice_get told place ≡ Some fault → fault ≡ None)
     → get_or told count None ≡ None → (place : ℕ) (fault : Option OperatorFault) → place < count + 1 → slice_get told place ≡ Some fault
@@ -91,5 +69,5 @@ none_up_to told count before none place fault within at = elim (cases_lt place c
   | inl lower ↦ before place fault lower at
   | inr last ↦
       let same : place ≡ count = omega (arith, within, last) in
-      sym (fault_at told place fault at) ∙ ap (λ (k : ℕ). get_or told k None) same ∙ none
+      sym (get_or_from_slice_get told place fault None at) ∙ ap (λ (k : ℕ). get_or told k None) same ∙ none
 ]

@@ -15,18 +15,23 @@ use Rattle.lx_desk.specs.Endings.{EndsJob, HasEndedBy, HasCauseOf}
 use Rattle.lx_desk.specs.Finished.{Finishes, HasWanted, WantsMemory}
 use Rattle.lx_desk.specs.ShowRefusal.{RefusedBy}
 
--- A text was appended and handed on, and the status is the good one; or a front of it was, and a write failed or memory was short. In the
--- meantime a heap's count of refusals went from one number to another.
+-- What a status tells of the counts: a fault of the outside comes only where its count rose, what was done passed over none and is handed
+-- on, and memory is told only where a heap refused some or the output was out of it. The reads failed from one count to another, and a
+-- heap's count of refusals went from one number to another.
+pub record Accounts {K : Type 0} (told : ToldBySink K) (refusals refusals' reads reads' : ℕ) (output output' : K) (s : Status) : Type 0 where
+  pub cause : HasCauseOf s reads reads' (told.faults output) (told.faults output')
+  pub finished : Finishes reads reads' told output output' s
+  pub memory : HasWanted told output output' s
+  pub wanted : WantsMemory told refusals refusals' output output' s
+  pub later : refusals ≤ refusals'
+
+-- A text was appended and handed on, and the status is the good one; or a front of it was, and a write failed or memory was short.
 pub record Tells {K : Type 0} (told : ToldBySink K) (refusals refusals' : ℕ) (good : Status) (text : List ℕ) (output output' : K) (s : Status)
     : Type 0 where
   pub whole : s ≡ good → Appends (told.holds output) (told.holds output') text
   pub front : AppendsFront (told.holds output) (told.holds output') text
   pub kinds : (s ≡ good) ⊎ ((s ≡ status.WriteFault) ⊎ (s ≡ status.Memory))
-  pub write : s ≡ status.WriteFault → Rose (told.faults output) (told.faults output')
-  pub finished : (reads : ℕ) → Finishes reads reads told output output' s
-  pub memory : HasWanted told output output' s
-  pub wanted : WantsMemory told refusals refusals' output output' s
-  pub later : refusals ≤ refusals'
+  pub accounts : (reads : ℕ) → Accounts told refusals refusals' reads reads output output' s
 
 -- A show was refused for this fault, or couldn't be read.
 pub record Refuses {K : Type 0} (told : ToldBySink K) (fault : ShowFault) (output output' : K) (s : Status) : Type 0 where
@@ -37,16 +42,12 @@ pub record Refuses {K : Type 0} (told : ToldBySink K) (fault : ShowFault) (outpu
   pub wanted : s ≡ status.Memory → (fault ≡ faults.Memory) ⊎ Rose (told.wants output) (told.wants output')
   pub untouched : (s ≡ status.ReadFault) ⊎ (s ≡ status.InputTooLong) → output' ≡ output
 
--- A job was done over the bytes that were given, of which so much is left; its reads failed from one count to another, and a heap's count of
--- refusals went from one number to another.
+-- A job was done over the bytes that were given, of which so much is left.
 pub record Does {K : Type 0} (told : ToldBySink K) (refusals refusals' : ℕ) (job : Job) (given left : Option (List ℕ)) (reads reads' : ℕ)
     (output output' : K) (s : Status) : Type 0 where
   pub works : EndsJob s
   pub ended : ByMemory refusals refusals'
       (λ ample. IfSome given (λ bytes. HasEndedBy ample s job bytes left (told.holds output) (told.holds output')))
   pub prefix : IfSome given (λ bytes. WritesPrefix job bytes (told.holds output) (told.holds output'))
-  pub cause : HasCauseOf s reads reads' (told.faults output) (told.faults output')
-  pub finished : Finishes reads reads' told output output' s
-  pub memory : HasWanted told output output' s
-  pub wanted : WantsMemory told refusals refusals' output output' s
-  pub later : refusals ≤ refusals'
+  pub accounts : Accounts told refusals refusals' reads reads' output output' s
+  pub open accounts use *

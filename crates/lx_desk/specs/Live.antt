@@ -357,7 +357,6 @@ pub record PlaysLive {S O K : Type 0} (told_in : ToldBySource S) (told_out : Tol
   pub ended : ByLiveMemory refusals refusals' writers writers' (λ ample. IfSome (unread told_in old)
       (λ bytes. HasPlayedLive ample s told show universes (bytes_taken old) bytes (source_left told_in new) (told_out.holds output)
       (told_out.holds output') outlets outlets'))
-  pub later : source_faults told_in old ≤ source_faults told_in new
   pub cause : HasLiveCause told s (source_faults told_in old) (source_faults told_in new) (told_out.faults output) (told_out.faults output')
       outlets outlets'
   pub order : ByLiveMemory refusals refusals' writers writers' (λ ample. IfSome (unread told_in old)

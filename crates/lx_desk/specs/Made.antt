@@ -18,8 +18,8 @@ use Rattle.lx_session.specs.declared.tally.Tally.{Tally}
 use Rattle.lx_desk.specs.declared.desk.Status.{Status}
 use Rattle.lx_desk.specs.declared.desk.Status.TheVariants as status
 use Rattle.lx_desk.specs.declared.make.Report.{Report}
-use Rattle.lx_desk.specs.Endings.{EndsScript, HasCauseOf}
-use Rattle.lx_desk.specs.Finished.{Finishes, HasWanted, WantsMemory}
+use Rattle.lx_desk.specs.Done.{Accounts}
+use Rattle.lx_desk.specs.Endings.{EndsScript}
 use Rattle.lx_desk.specs.Output.{ScriptFailures}
 
 -- the five lines
@@ -60,9 +60,5 @@ pub record TellsScript {S K : Type 0} (told_in : ToldBySource S) (told : ToldByS
   pub works : EndsScript s
   pub ended : ByMemory refusals refusals' (λ ample. IfSome (unread told_in old)
       (λ bytes. HasTold ample s cues d old.taken bytes (told.holds output) (told.holds output')))
-  pub front : IfSome (unread told_in old) (λ bytes. TellsInFront false cues d (lines_of bytes) (told.holds output) (told.holds output'))
-  pub cause : HasCauseOf s (source_faults told_in old) (source_faults told_in new) (told.faults output) (told.faults output')
-  pub finished : Finishes (source_faults told_in old) (source_faults told_in new) told output output' s
-  pub memory : HasWanted told output output' s
-  pub wanted : WantsMemory told refusals refusals' output output' s
-  pub later : refusals ≤ refusals'
+  pub accounts : Accounts told refusals refusals' (source_faults told_in old) (source_faults told_in new) output output' s
+  pub open accounts use *

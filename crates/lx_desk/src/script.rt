@@ -13,15 +13,16 @@ ghost use Rattle.lx_desk.specs.Finished.{Finishes, HasWanted, WantsMemory};
 ghost use Rattle.lx_desk.specs.Plays.{Plays};
 
 use crate::desk::Status;
-use crate::play::play;
+use crate::play::{play, play_by};
 use crate::refuse::refuse;
-use crate::two::play_two;
-use crate::undo::play_with_undo;
+use lx_base::UNDO_DEPTH;
 use lx_io::{Heap, Sink, Source};
 use lx_lex::Lines;
+use lx_lists::TwoLists;
 use lx_reader::read_show_in;
 use lx_show::{Form, Show};
 use lx_spec::ScriptKind;
+use lx_undo::UndoDesk;
 
 /// Reads a show and then a script, and answers the script over the show. Of one that is played live nothing is done here.
 pub(crate) fn script<H: Heap, S: Source, K: Sink>(
@@ -92,7 +93,12 @@ fn play_script<H: Heap, S: Source, K: Sink>(
     match kind {
         ScriptKind::Render => play(heap, show, lines, output),
         ScriptKind::Live(_) => unreachable!(),
-        ScriptKind::Undo => play_with_undo(heap, show, lines, output),
-        ScriptKind::Two => play_two(heap, show, lines, output),
+        ScriptKind::Undo => play_by(
+            UndoDesk::open_in(heap, show, UNDO_DEPTH),
+            heap,
+            lines,
+            output,
+        ),
+        ScriptKind::Two => play_by(TwoLists::open_in(heap, show), heap, lines, output),
     }
 }

@@ -1,7 +1,7 @@
-use Rattle.lx_desk.proofs.Imports.{inl, inr, refl, sym, subst, arith, IsSome, length, ◌≤◌, ◌++◌, opened, EachAt}
+use Rattle.lx_desk.proofs.Imports.{inl, inr, refl, sym, subst, arith, IsSome, length, ◌≤◌, opened, EachAt}
 use Rattle.lx_desk.proofs.CrewRuns.{full_front, serves_none, serves_over}
 use Rattle.lx_desk.proofs.Finishing.{rose_since}
-use Rattle.lx_desk.proofs.LiveRuns.{joined}
+use Rattle.lx_desk.proofs.PlacesInUse.{InUse, joined}
 use Rattle.lx_desk.proofs.crew.serve.Goals as goal
 
 pub crew_in-requires-clause-full : goal.crew_in-requires-clause-full
@@ -11,30 +11,26 @@ crew_in-requires-clause-full g c = λ κs bounds.
 
 pub returns-in_default : goal.returns-in_default
 returns-in_default g c =
-    serves_none g.S.Source g.K.Sink (g.H.Heap.refusals c.args.heap.now) (g.H.Heap.refusals c.open_in.new.heap) c.args.queues.now c.args.queues.now
-    c.args.show c.args.count c.args.operators.now c.args.operators.now c.args.output.now c.args.output.now refl refl c.requires.full
-    c.in_default.ensures.cause.later (omega arith) (inl c.in_default.ensures.cause.failed)
+    serves_none refl refl c.requires.full c.in_default.ensures.cause.later (omega arith) (inl c.in_default.ensures.cause.failed)
 
 pub returns-in-Ok-crew_in : goal.returns-in-Ok-crew_in
 returns-in-Ok-crew_in g c =
     let s = c.split_at_mut-used.ensures in
     let e = c.in-Ok-crew_in.ensures in
     let most : c.args.count ≤ length c.args.operators.now = omega (arith, c.requires.most, c.requires.all) in
-    serves_over g.S.Source g.K.Sink (g.H.Heap.refusals c.args.heap.now) (g.H.Heap.refusals c.open_in.new.heap)
-    (g.H.Heap.refusals c.crew_in.new.heap) c.args.queues.now c.crew_in.new.queues c.args.show c.args.count c.args.operators.now _
-    c.crew_in.new.operators c.split_at_mut-used.result.1.now c.args.output.now c.crew_in.new.sink _ _ _ _ c.status_of_crew.result s.front s.front_len
-    s.back most c.requires.full c.in-Ok.ensures.cause.later e.later e.queues_later
+    let i : InUse c.args.count c.args.operators.now _ c.split_at_mut-used.result.1.now =
+    record { front = s.front; count = s.front_len; back = s.back } in
+    serves_over _ _ c.crew_in.new.operators i most c.requires.full c.in-Ok.ensures.cause.later e.later e.queues_later
     (λ ample sure. e.crewed ample sure (opened c.args.show) c.in-Ok.ensures.stands) e.cause e.handed_on c.status_of_crew.ensures
 
 pub returns : goal.returns
 returns g c =
     let s = c.split_at_mut-used.ensures in
     let err = c.in-Err.ensures.err in
-    serves_none g.S.Source g.K.Sink (g.H.Heap.refusals c.args.heap.now) (g.H.Heap.refusals c.crew_in.new.heap) c.args.queues.now
-    c.crew_in.new.queues c.args.show c.args.count c.args.operators.now (c.crew_in.new.operators ++ c.split_at_mut-used.result.1.now)
-    c.args.output.now c.crew_in.new.sink (joined _ _ _ _ _ err.1.1 s.front s.back) err.1.0 c.requires.full
-    (omega (arith, c.in-Ok.ensures.cause.later, c.in-Err.ensures.later)) c.in-Err.ensures.queues_later (elim c.in-Err.ensures.memory [
-      | inl refused ↦ inl (rose_since (g.H.Heap.refusals c.args.heap.now) (g.H.Heap.refusals c.open_in.new.heap)
-          (g.H.Heap.refusals c.crew_in.new.heap) c.in-Ok.ensures.cause.later refused)
+    let i : InUse c.args.count c.args.operators.now _ c.split_at_mut-used.result.1.now =
+    record { front = s.front; count = s.front_len; back = s.back } in
+    serves_none (joined i _ err.1.1) err.1.0 c.requires.full (omega (arith, c.in-Ok.ensures.cause.later, c.in-Err.ensures.later))
+    c.in-Err.ensures.queues_later (elim c.in-Err.ensures.memory [
+      | inl refused ↦ inl (rose_since _ _ _ c.in-Ok.ensures.cause.later refused)
       | inr queue ↦ inr queue
     ])

@@ -6,6 +6,4 @@ pub returns-in-Ok : goal.returns-in-Ok
 returns-in-Ok g c = λ left reads. rw (sym c.in-Ok.ensures.cause.kept) (c.make_of.ensures left reads)
 
 pub returns-in-Err : goal.returns-in-Err
-returns-in-Err g c = λ left reads.
-    not_made g.K.Sink (g.H.Heap.refusals c.args.heap.now) (g.H.Heap.refusals c.made_input.new.heap) c.args.cues left reads c.args.output.now
-    c.in-Err.ensures.cause.later c.in-Err.ensures.cause.failed
+returns-in-Err g c = λ left reads. not_made c.in-Err.ensures.cause.later c.in-Err.ensures.cause.failed

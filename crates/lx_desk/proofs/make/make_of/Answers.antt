@@ -6,15 +6,11 @@ use Rattle.lx_desk.proofs.make.make_of.Goals as goal
 pub returns-in-Ok : goal.returns-in-Ok
 returns-in-Ok g c = λ left reads.
     let is = c.new-lines.ensures.unread ∙ ap (λ (s : PlainBytes). Some s.left) c.new-input.ensures ∙ ap (λ (b : List ℕ). Some b) c.requires in
-    made_does c.args.cues _ c.new-lines.result c.read_show_in.new.lines is c.new-lines.ensures.taken g.K.Sink
-    (g.H.Heap.refusals c.args.heap.now) (g.H.Heap.refusals c.read_show_in.new.heap) (g.H.Heap.refusals c.tell_session.new.heap) c.in-Ok.loaded
-    c.tell_session.new.lines left reads c.args.output.now c.tell_session.new.output c.tell_session.result c.in-Ok.ensures.answer
+    made_does c.args.cues _ c.new-lines.result c.read_show_in.new.lines is c.new-lines.ensures.taken c.in-Ok.ensures.answer
     c.in-Ok.ensures.cause.later refl refl c.tell_session.ensures
 
 pub returns : goal.returns
 returns g c = λ left reads.
     let is = c.new-lines.ensures.unread ∙ ap (λ (s : PlainBytes). Some s.left) c.new-input.ensures ∙ ap (λ (b : List ℕ). Some b) c.requires in
-    refused_makes c.args.cues _ c.new-lines.result c.read_show_in.new.lines is c.new-lines.ensures.taken g.K.Sink
-    (g.H.Heap.refusals c.args.heap.now) (g.H.Heap.refusals c.read_show_in.new.heap) left reads c.args.output.now c.refuse.new.output
-    c.in-Err.fault c.refuse.result c.in-Err.ensures.answer (λ is. c.in-Err.ensures.read (ap Err is)) c.in-Err.ensures.cause.failed
-    c.in-Err.ensures.cause.later c.refuse.ensures
+    refused_makes c.args.cues _ c.new-lines.result c.read_show_in.new.lines is c.new-lines.ensures.taken c.in-Err.ensures.answer
+    (λ is. c.in-Err.ensures.read (ap Err is)) c.in-Err.ensures.cause.failed c.in-Err.ensures.cause.later c.refuse.ensures

@@ -6,14 +6,13 @@ use Rattle.lx_desk.proofs.refuse.refuse.Goals as goal
 
 pub returns-in-Text : goal.returns-in-Text
 returns-in-Text g c =
-    rw c.in-Text.is (refuses_text g.K.Sink c.in-Text.fault c.args.output.now c.finish.new.output c.finish.result
-    (c.finish.ensures 0 c.args.output.now (fault_text c.in-Text.fault) c.put_fault.ensures))
+    rw c.in-Text.is (refuses_text (c.finish.ensures 0 c.args.output.now (fault_text c.in-Text.fault) c.put_fault.ensures))
 
 pub returns-in-ReadFault : goal.returns-in-ReadFault
-returns-in-ReadFault g c = rw c.in-ReadFault.is (refuses_other g.K.Sink shows.ReadFault status.ReadFault c.args.output.now refl)
+returns-in-ReadFault g c = rw c.in-ReadFault.is (refuses_other shows.ReadFault status.ReadFault refl)
 
 pub returns-in-InputTooLong : goal.returns-in-InputTooLong
-returns-in-InputTooLong g c = rw c.in-InputTooLong.is (refuses_other g.K.Sink shows.InputTooLong status.InputTooLong c.args.output.now refl)
+returns-in-InputTooLong g c = rw c.in-InputTooLong.is (refuses_other shows.InputTooLong status.InputTooLong refl)
 
 pub returns-in-Memory : goal.returns-in-Memory
-returns-in-Memory g c = rw c.in-Memory.is (refuses_other g.K.Sink shows.Memory status.Memory c.args.output.now refl)
+returns-in-Memory g c = rw c.in-Memory.is (refuses_other shows.Memory status.Memory refl)

@@ -1,17 +1,18 @@
-use Rattle.lx_desk.proofs.Imports.{sym, ◌∙◌, false, Script}
-use Rattle.lx_desk.proofs.EmptyPrefixes.{nothing_written}
-use Rattle.lx_desk.proofs.Endings.{words_here, ended_live}
+use Rattle.lx_desk.proofs.Imports.{refl, sym, ap, ◌∙◌, false, if◌then◌else◌, None, Some, Script}
+use Rattle.lx_desk.specs.declared.desk.Status.TheVariants as status
+use Rattle.lx_desk.proofs.Inputs.{all_known, unwritten}
+use Rattle.lx_desk.proofs.Jobs.{words_of}
 use Rattle.lx_desk.proofs.script.script.Goals as goal
 
 pub returns-clause-words : goal.returns-clause-words
-returns-clause-words g c =
-    words_here c.args.kind c.args.form c.read_and_play.result _ _ _ _ (sym c.is_live.ensures ∙ c.if-is_live.false)
+returns-clause-words g c = words_of refl (ap (λ b. if b then Some status.Live else None) (sym c.is_live.ensures ∙ c.if-is_live.false))
     c.read_and_play.ensures.works
 
 pub returns-then-is_live-clause-prefix : goal.returns-then-is_live-clause-prefix
 returns-then-is_live-clause-prefix g c =
-    nothing_written false (Script c.args.kind c.args.form) (g.S.Source.left c.args.input.now) (g.K.Sink.holds c.args.output.now)
+    all_known (g.S.Source.left c.args.input.now) _ (λ x. unwritten false (Script c.args.kind c.args.form) x (g.K.Sink.holds c.args.output.now))
 
 pub returns-then-is_live-clause-ended : goal.returns-then-is_live-clause-ended
 returns-then-is_live-clause-ended g c = λ ample stood.
-    ended_live (g.S.Source.left c.args.input.now) c.args.kind c.args.form (sym c.is_live.ensures ∙ c.if-is_live.true)
+    all_known (g.S.Source.left c.args.input.now) _ (λ x. ap (λ b. if b then Some status.Live else None)
+    (sym c.is_live.ensures ∙ c.if-is_live.true))

@@ -1,5 +1,4 @@
 use Rattle.lx_desk.proofs.Imports.{sym}
-use Rattle.lx_desk.specs.declared.desk.Status.TheVariants as status
 use Rattle.lx_desk.proofs.Finishing.{tells_none}
 use Rattle.lx_desk.proofs.sheet.list.Goals as goal
 
@@ -7,5 +6,4 @@ pub returns-in-Ok : goal.returns-in-Ok
 returns-in-Ok g c = rw (sym c.in-Ok.ensures.cause.kept) (c.tell.ensures (g.H.Heap.refusals c.open_in.new.heap))
 
 pub returns-in-Err : goal.returns-in-Err
-returns-in-Err g c =
-    tells_none g.K.Sink _ _ status.Ok _ c.args.output.now tt c.in-Err.ensures.cause.later c.in-Err.ensures.cause.failed
+returns-in-Err g c = tells_none tt c.in-Err.ensures.cause.later c.in-Err.ensures.cause.failed
