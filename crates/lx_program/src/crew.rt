@@ -1,10 +1,15 @@
 //! A crew as a call: `crew N`.
 
 ghost use Rattle.std.specs.Prelude.{◌≡◌, ◌≤◌, true, false, IsSome, length, map, string_bytes};
-ghost use Rattle.lx_program.specs.Imports.{EachAt, job_of, reads, HasStood, HandsOn, HasCrewCause, HasCrewEnded, KeepsOperators};
-ghost use Rattle.lx_program.specs.Imports.{TakesNoneOrWants, WritesCrewFront, Finishes, HasWanted, OfCrew, in_use, ReadsWordsOnce};
-ghost use Rattle.lx_program.specs.Imports.{WantsCrewOrWords};
+ghost use Rattle.lx_base.specs.Places.{EachAt};
 ghost use Rattle.lx_base.specs.declared.TheConstants.{OPERATORS};
+ghost use Rattle.lx_spec.specs.Job.{job_of};
+ghost use Rattle.lx_spec.specs.Reading.{reads};
+ghost use Rattle.lx_session.specs.Spared.{HasStood};
+ghost use Rattle.lx_desk.specs.Crew.{HandsOn, HasCrewCause, HasCrewEnded, KeepsOperators, TakesNoneOrWants, WritesCrewFront};
+ghost use Rattle.lx_desk.specs.Finished.{Finishes, HasWanted};
+ghost use Rattle.lx_program.specs.NamedJob.{OfCrew, in_use};
+ghost use Rattle.lx_program.specs.Wants.{ReadsWordsOnce, WantsCrewOrWords};
 
 use crate::words::{WordsFault, crew_of};
 use crate::words_heap::WordsHeap;

@@ -1,9 +1,13 @@
 //! A live run as a call: `run U`.
 
 ghost use Rattle.std.specs.Prelude.{◌≡◌, ◌≤◌, true, false, length, map, string_bytes};
-ghost use Rattle.lx_program.specs.Imports.{job_of, IsFull, Finishes, any_memory, ByLiveMemory, DecidesInOrder, HasLiveCause, HasLived};
-ghost use Rattle.lx_program.specs.Imports.{KeepsOutlets, LivesToEnd, OfRun, ReadsWordsOnce, WantsRunOrWords};
 ghost use Rattle.lx_base.specs.declared.TheConstants.{UNIVERSES};
+ghost use Rattle.lx_spec.specs.Job.{job_of};
+ghost use Rattle.lx_workers.specs.Places.{IsFull};
+ghost use Rattle.lx_desk.specs.Finished.{Finishes};
+ghost use Rattle.lx_desk.specs.Live.{any_memory, ByLiveMemory, DecidesInOrder, HasLiveCause, HasLived, KeepsOutlets, LivesToEnd};
+ghost use Rattle.lx_program.specs.NamedJob.{OfRun};
+ghost use Rattle.lx_program.specs.Wants.{ReadsWordsOnce, WantsRunOrWords};
 
 use crate::words::{WordsFault, live_run_of};
 use crate::words_heap::WordsHeap;

@@ -2,8 +2,8 @@
 
 ghost use Rattle.std.specs.Prelude.{◌≡◌, length, IfSome, None, IsSome};
 ghost use Rattle.std.specs.Io.{ReadsAtMost};
-ghost use Rattle.lx_program.specs.Places.{AreFilled, OfEachPlace};
 ghost use Rattle.lx_base.specs.declared.TheConstants.{OPERATORS};
+ghost use Rattle.lx_program.specs.Places.{AreFilled, OfEachPlace};
 
 use lx_base::OPERATORS;
 use lx_io::{Failed, Source};

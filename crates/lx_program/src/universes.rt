@@ -2,8 +2,8 @@
 
 ghost use Rattle.std.specs.Prelude.{◌≡◌, ◌≤◌, [], length, IfOk, IfSome, None, IsSome};
 ghost use Rattle.lx_io.specs.Causes.{Rose};
-ghost use Rattle.lx_program.specs.Places.{AreFilled, OfEachPlace};
 ghost use Rattle.lx_base.specs.declared.TheConstants.{UNIVERSES};
+ghost use Rattle.lx_program.specs.Places.{AreFilled, OfEachPlace};
 
 use lx_base::UNIVERSES;
 use lx_io::{Sink, SinkFault};

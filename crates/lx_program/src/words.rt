@@ -1,11 +1,14 @@
 //! The words of the command line.
 
 ghost use Rattle.std.specs.Prelude.{◌≡◌, ◌≤◌, true, false, None, Some, Err, map, option_map, string_bytes, IfOk, IfErr, IfSome};
-ghost use Rattle.lx_program.specs.Imports.{list_any, job_of, form_of, number_alone, plain_number, counted_job, ended, JobInRange};
-ghost use Rattle.lx_program.specs.Imports.{NamesNoCrew, NamesNoRun, begins_with_dash};
+ghost use Rattle.std.specs.List.{list_any};
 ghost use Rattle.lx_base.specs.declared.TheConstants.{OPERATORS, UNIVERSES};
 ghost use Rattle.lx_spec.specs.declared.Job.TheVariants.{Crew, Script};
 ghost use Rattle.lx_spec.specs.declared.ScriptKind.TheVariants.{Live};
+ghost use Rattle.lx_spec.specs.Job.{job_of, form_of, number_alone, plain_number, counted_job};
+ghost use Rattle.lx_spec.specs.Phrase.{ended};
+ghost use Rattle.lx_program.specs.NamedJob.{JobInRange, NamesNoCrew, NamesNoRun};
+ghost use Rattle.lx_program.specs.Words.{begins_with_dash};
 ghost use Rattle.lx_io.specs.Causes.{HasCauseOf};
 
 use crate::words_heap::{WORD, WordsHeap};
