@@ -120,7 +120,7 @@ JOBS = [(("render",), WHOLE), (("render", "states"), LOOKS), (("check",), WHOLE)
         (("two",), LISTS), (("two", "states"), LOOKS + b"2 cue 3\n2 sheet 3\n"), (("crew", "2"), SHOW.encode())]
 # The operators' scripts of a crew.
 SCRIPTS = [("\n".join(SCRIPT) + "\n").encode(), b"cue 7\nset 7 chan 4 at FL\nsheet 7\nframe\nlabel 7 another\nset 9 chan 1 at 0\ntick 3\nsheet 3\nframe\n"]
-# The statuses that a run may have, by what is refused; a crew's is 3 where there is no memory to open an operator's file.
+# The statuses that a run may have, by what is refused.
 STATUSES = {"allocation": (0, 5), "read": (0, 3), "write": (0, 4)}
 KEYS = {b"go", b"tick", b"frame", b"sheet", b"save", b"quit", b"fly"}
 
@@ -254,7 +254,6 @@ def refusals(program):
         refuser = Refuser(program, folder)
         for words, data in JOBS:
             for kind, statuses in STATUSES.items():
-                statuses += (3,) if words[0] == "crew" and kind == "allocation" else ()
                 at, calls = 0, 0
                 while at <= calls:
                     at += 1

@@ -45,6 +45,14 @@ static void must(int holds, const char *what) {
     }
 }
 
+/* The same where it is no call of the system that failed. */
+static void need(int holds, const char *what) {
+    if (!holds) {
+        fprintf(stderr, "outlets: %s\n", what);
+        exit(EXIT_FAILURE);
+    }
+}
+
 /* A whole line: `frame COUNT ..`. */
 static void line_came(struct outlet *o, double at) {
     long count = strtol(o->head + 6, NULL, 10);
@@ -117,20 +125,21 @@ static void tell(int universes, long from, long count) {
                 took[n++] = outlets[u].at[k] - replied[k - 1];
     }
     qsort(took, n, sizeof *took, by_size);
-    must(n > 0, "no line came");
+    need(n > 0, "no line came");
     printf("%ld commands, %d outlets: from reply to line %.0f us at the median, %.0f for 99 of 100, %.0f at most; %zu of %ld came, in %ld lines\n",
            count, universes, took[n / 2], took[n * 99 / 100], took[n - 1], n, count * universes, lines);
     free(took);
 }
 
 int main(int words, char **word) {
-    must(words > 6, "outlets PROGRAM SHOW UNIVERSES COUNT PERIOD LINE..");
+    need(words > 6, "usage: outlets PROGRAM SHOW UNIVERSES COUNT PERIOD LINE..");
     int universes = atoi(word[3]), to[2], from[2];
     long count = atol(word[4]);
     double period = atof(word[5]);
     struct pollfd polled[1 + MOST];
     signal(SIGPIPE, SIG_IGN);
-    must(universes >= 1 && universes <= MOST && count < LINES - 8, "range");
+    need(universes >= 1 && universes <= MOST, "UNIVERSES is from 1 to 32");
+    need(count >= 1 && count < LINES - 8, "COUNT is from 1 to 32,759");
     for (int u = 0; u < universes; u++) {
         char name[32];
         snprintf(name, sizeof name, "universe-%d.txt", u + 1);
@@ -153,8 +162,9 @@ int main(int words, char **word) {
     polled[0] = (struct pollfd){ from[0], POLLIN, 0 };
     FILE *show = fopen(word[2], "rb");
     must(show != NULL, word[2]);
-    static char text[1 << 22];
-    send_text(to[1], text, fread(text, 1, sizeof text, show));
+    static char text[1 << 16];
+    for (size_t got; (got = fread(text, 1, sizeof text, show)) > 0;)
+        send_text(to[1], text, got);
     send_text(to[1], "go\n", 3);
     for (double start = now(); replies < 1 && now() - start < 1e7;)
         pause_until(polled, 1 + universes, now() + 1000);
@@ -162,6 +172,7 @@ int main(int words, char **word) {
     for (long k = 0; k < count; k++) {
         char line[256];
         int length = snprintf(line, sizeof line, "%s\n", word[6 + k % (words - 6)]);
+        need(length < (int)sizeof line, "a LINE is too long");
         send_text(to[1], line, (size_t)length);
         pause_until(polled, 1 + universes, start + (k + 1) * period);
     }

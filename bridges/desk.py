@@ -10,6 +10,7 @@ clock. What stands behind ENDDATA in the show's file is not played. All that is 
 import argparse
 import curses
 import locale
+import logging
 import os
 import select
 import signal
@@ -28,6 +29,7 @@ if TYPE_CHECKING:
     from seat.remote import Remote
 
 UNIVERSES = 32
+PORTS = 65_535
 # After how many ticks the screen is drawn again while something moves; after a key it is drawn at the next tick.
 DRAW_TICKS = 2
 # How long a lone Escape is waited behind for the rest of an arrow key, in milliseconds.
@@ -113,11 +115,27 @@ def ended(seat: Seat) -> int:
     late = []
     if seat.handover:
         late = [f"universe {universe}: its last frame isn't delivered: {seat.handover.why(universe)}" for universe in seat.handover.finish(LAST_FRAMES)]
-    for line in late:
-        print(f"desk.py: {line}", file=sys.stderr)
-    if seat.player.has_edits():
-        print("desk.py: edits weren't saved", file=sys.stderr)
+    for line in late + ["edits weren't saved"] * seat.player.has_edits():
+        say(line)
     return 1 if late else 0
+
+
+def say(line: str) -> None:
+    """One line on standard error; it is lost where that was the terminal, and is closed."""
+    try:
+        print(f"desk.py: {line}", file=sys.stderr)
+    except OSError:
+        pass
+
+
+def check_terminal() -> None:
+    """There is a terminal, and the machine knows how to draw on it."""
+    if not sys.stdin.isatty() or not sys.stdout.isatty():
+        raise Fault("a terminal is wanted")
+    try:
+        curses.setupterm()
+    except curses.error as error:
+        raise Fault(f"TERM is {os.environ.get('TERM', '')!r}, a terminal that isn't known here: TERM=xterm may do") from error
 
 
 def arguments() -> argparse.Namespace:
@@ -132,6 +150,8 @@ def arguments() -> argparse.Namespace:
     given = parser.parse_args()
     if not 1 <= given.universes <= UNIVERSES:
         parser.error(f"U is from 1 to {UNIVERSES}")
+    if not 1 <= given.ola_port <= PORTS:
+        parser.error(f"PORT is from 1 to {PORTS}")
     return given
 
 
@@ -159,29 +179,47 @@ def seat_of(given: argparse.Namespace) -> Seat:
     return Seat(player, remote, handover)
 
 
+def played(seat: Seat, name: str, is_fine: bool) -> int:
+    """Plays until the operator leaves, or a signal ends the seat: 0, or the status that tells of the signal."""
+    leaving: List[int] = []
+
+    def run(window: "curses.window") -> None:
+        """Plays in the terminal."""
+        try:
+            seat.run(window, name, is_fine)
+        except KeyboardInterrupt:
+            leaving.append(130)
+        except SystemExit as signalled:
+            leaving.append(int(signalled.code or 0))
+
+    try:
+        curses.wrapper(run)
+    except curses.error:
+        # A terminal that was closed can't be set as it was.
+        if not leaving:
+            raise
+    return leaving[0] if leaving else 0
+
+
 def main() -> int:
     """The exit status: 0 where all was delivered, 1 where olad lacks a last frame, 2 where the seat can't begin."""
     given = arguments()
     locale.setlocale(locale.LC_ALL, "")
     is_fine = locale.nl_langinfo(locale.CODESET).upper().replace("-", "") == "UTF8"
     try:
-        if not sys.stdin.isatty() or not sys.stdout.isatty():
-            raise Fault("a terminal is wanted")
+        check_terminal()
         seat = seat_of(given)
     except Fault as fault:
-        print(f"desk.py: {fault}", file=sys.stderr)
+        say(str(fault))
         return 2
     signal.signal(signal.SIGTERM, lambda *_: sys.exit(143))
     signal.signal(signal.SIGHUP, lambda *_: sys.exit(129))
+    # OLA's client logs what it can't read, which is not to stand on the screen.
+    logging.getLogger().addHandler(logging.NullHandler())
     curses.set_escdelay(ESCAPE_WAIT)
-    try:
-        curses.wrapper(seat.run, os.path.basename(given.show), is_fine)
-    except KeyboardInterrupt:
-        return ended(seat) or 130
-    except SystemExit as leaving:
-        ended(seat)
-        raise leaving
-    return ended(seat)
+    leaving = played(seat, os.path.basename(given.show), is_fine)
+    late = ended(seat)
+    return leaving if leaving in (129, 143) else late or leaving
 
 
 if __name__ == "__main__":

@@ -20,6 +20,7 @@ from typing import Callable, Dict, List, Optional, Union
 _HERE = os.path.dirname(os.path.abspath(__file__))
 sys.path[:] = [folder for folder in sys.path if os.path.abspath(folder) != _HERE] + [_HERE]
 
+from google.protobuf.message import DecodeError  # noqa: E402
 from ola.OlaClient import OLA_PORT, OLADNotRunningException, OlaClient, RequestStatus  # noqa: E402
 
 # Seconds until olad, or a universe that it refused, is tried again.
@@ -169,7 +170,7 @@ class HandOver:
             if not client.GetSocket().recv(1, socket.MSG_PEEK):
                 raise ConnectionResetError("olad went away")
             client.SocketReady()
-        except (OLADNotRunningException, OSError):
+        except (OLADNotRunningException, OSError, DecodeError):
             self._miss()
 
     def _answered(self, universe: int, lane: Lane, status: RequestStatus) -> None:

@@ -23,6 +23,7 @@ if TYPE_CHECKING:
 
 UNIVERSES = 32
 SLOTS = 512
+PORTS = 65_535
 # More than the longest line, so that a line that never ends is no frame.
 LINE_BYTES = 8_192
 DIGITS = b"0123456789"
@@ -122,10 +123,10 @@ class Outlet:
         return lines
 
     def close(self) -> None:
-        """Closes the pipe, and removes it if it was made here."""
-        os.close(self._file)
-        if self.is_ours:
+        """Closes the pipe, and removes it if it was made here and is still in its place."""
+        if self.is_ours and os.path.exists(self.path) and os.path.samestat(os.stat(self.path), os.fstat(self._file)):
             os.unlink(self.path)
+        os.close(self._file)
 
 
 class Bridge:
@@ -168,8 +169,11 @@ class Bridge:
 
 
 def say(text: str) -> None:
-    """One line on standard error."""
-    print(f"ola.py: {text}", file=sys.stderr, flush=True)
+    """One line on standard error. Where nobody takes it any more it is lost, and the frames go on."""
+    try:
+        print(f"ola.py: {text}", file=sys.stderr, flush=True)
+    except OSError:
+        pass
 
 
 def say_strange(outlet: Outlet, line: bytes) -> None:
@@ -200,6 +204,8 @@ def arguments() -> argparse.Namespace:
     given = parser.parse_args()
     if not 1 <= given.universes <= UNIVERSES:
         parser.error(f"U is from 1 to {UNIVERSES}")
+    if not 1 <= given.port <= PORTS:
+        parser.error(f"PORT is from 1 to {PORTS}")
     return given
 
 
@@ -212,6 +218,8 @@ def main() -> int:
         say("OLA's Python client isn't there: apt-get install --no-install-recommends ola ola-python")
         return 2
     signal.signal(signal.SIGTERM, lambda *_: sys.exit(143))
+    if signal.getsignal(signal.SIGHUP) != signal.SIG_IGN:
+        signal.signal(signal.SIGHUP, lambda *_: sys.exit(129))
     outlets: List[Outlet] = []
     handover = HandOver(say, given.port)
     try:

@@ -8,7 +8,7 @@ if [ -z "${CUEDESK:-}" ] && [ ! -x "$top/crates/cuedesk/out/cuedesk" ] && [ ! -x
 fi
 folder=$(mktemp -d)
 run=
-trap 'if [ -n "$run" ]; then kill "$run" 2> /dev/null; fi; rm -rf "$folder"' EXIT
+trap 'if [ -n "$run" ]; then kill "$run" 2> /dev/null || true; fi; rm -rf "$folder"' EXIT
 mkfifo "$folder/universe-1.txt" "$folder/universe-2.txt"
 (cd "$folder" && exec "${CUEDESK:-$top/cuedesk}" run 2 < "$top/examples/live.asc" > /dev/null) &
 run=$!

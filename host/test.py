@@ -8,7 +8,9 @@ wrong, and last 'N passed, M failed'.
 """
 import argparse
 import concurrent.futures
+import contextlib
 import glob
+import io
 import os
 import shutil
 import subprocess
@@ -97,6 +99,22 @@ def installed():
     is_same(said, f"{prefix}/share/cuedesk/python/cuedesk.py ['refused NoCueAfter 0']\n".encode(), "the module")
 
 
+def in_a_checkout():
+    """Without an installation the module takes the library that was built, or else the released one."""
+    top = os.path.join(BUILD, "checkout")
+    shutil.rmtree(top, ignore_errors=True)
+    for name in ("cuedesk.h", os.path.join("python", "cuedesk.py")):
+        os.makedirs(os.path.dirname(os.path.join(top, "host", name)), exist_ok=True)
+        shutil.copy(os.path.join(HERE, name), os.path.join(top, "host", name))
+    found = dict(os.environ, PYTHONPATH=os.path.join(top, "host", "python"))
+    found.pop("CUEDESK_LIBRARY", None)
+    for folder in (os.path.join(top, "release", "lib"), os.path.join(top, "host", "build")):
+        os.makedirs(folder)
+        shutil.copy(os.path.join(BUILD, "libcuedesk.so.1"), folder)
+        taken = run([sys.executable, "-c", "import cuedesk; print(cuedesk._LIBRARY._name)"], env=found, cwd=BUILD)
+        is_same(taken, f"{folder}/libcuedesk.so.1\n".encode(), "the library")
+
+
 def names():
     """The libraries show the calls of the header, and nothing else."""
     with open(os.path.join(HERE, "cuedesk.h")) as header:
@@ -114,6 +132,28 @@ def bars():
     slots = dict(map(int, cell.split("=")) for cell in frame[3:])
     wanted = "".join(" ▁▂▃▄▅▆▇█"[(slots.get(slot, 0) * 8 + 127) // 255] for slot in range(1, 17))
     is_same(last.split("|")[1], wanted, last)
+
+
+def bars_of_any_lines():
+    """The script is played whatever its line ends are, and whatever stands before, behind and in it; what can't be done is told, once."""
+    with open(os.path.join(TOP, "examples", "fades.asc"), "rb") as opened:
+        text = opened.read()
+    wanted = run([os.path.join(BUILD, "bars"), os.path.join(TOP, "examples", "fades.asc"), "0"]).splitlines()[-1]
+    shown = []
+    for name, more in (("crlf", text.replace(b"\n", b"\r\n")), ("open", text.rstrip(b"\n")), ("word", text.replace(b"\nENDDATA\n", b"\n \tEndData; 1 ! the end\n"))):
+        path = os.path.join(BUILD, f"{name}.asc")
+        with open(path, "wb") as file:
+            file.write(more)
+        shown.append(run([os.path.join(BUILD, "bars"), path, "0"]).splitlines()[-1:])
+    is_same(shown, [[wanted]] * 3, "the last bars")
+    with open(path, "wb") as file:
+        file.write(b"IDENT 3:0\nCUE 1\nENDDATA\ngoto 7\n\n! a comment\ntickle\ntick 0\ngoto 8")
+    said = [line for line in run([os.path.join(BUILD, "bars"), path, "0"]).decode().splitlines() if "|" not in line]
+    is_same(said, ["goto 7: refused AbsentCue 7", "tickle: bad", "tick 0: bad", "goto 8: refused AbsentCue 8"], "what is told")
+    with open(path, "wb") as file:
+        file.write(b"IDENT 3:0\nCUE 1\nUP x\nENDDATA\n")
+    ended = subprocess.run([os.path.join(BUILD, "bars"), path], stderr=subprocess.PIPE, timeout=SECONDS)
+    is_same((ended.returncode, ended.stderr), (1, b"bars: the show was refused: BadNumber in line 3\n"), "a refused show")
 
 
 # ---------------------------------------------------------------------------------------------------------------------
@@ -196,7 +236,7 @@ def module():
             assert "out of range" in str(raises(ValueError, call, wrong))
         for wrong in (-1, 1 << 32):
             raises(ValueError, desk.tick, wrong)
-        for wrong in ("1.2345", -1, "10000"):
+        for wrong in ("1.2345", -1, "10000", "x", "", "nan", float("inf")):
             raises(ValueError, desk.tracked, wrong, 1)
         assert desk.command("quit") == [] and desk.ended and not desk.closed
     assert desk.closed and "closed" in str(raises(ValueError, desk.tick)) and "closed" in str(raises(ValueError, desk.command, "go"))
@@ -249,6 +289,25 @@ def rehearsal():
     is_same(run([sys.executable, os.path.join(EXAMPLES, "rehearsal.py"), file]).splitlines(), wanted, "rehearsal.py")
 
 
+def rehearsal_of_any_lines():
+    """What `tick` means, where a script begins, the last moment, and what can't be played."""
+    import cuedesk
+    import rehearsal as played
+    counts = [(b"tick", 1), (b"TICK; 25 ! a comment", 25), (b"tick 0", 0), (b"tick 100000000", 100_000_000), (b"tick 100000001", 0), (b"tickle", 0), (b"tick 1 2", 0),
+              (b"tick x", 0), (b"", 0), (b"tick " + b"1" * 5_000, 0)]
+    is_same([(line, played.ticks_in(line)) for line, _ in counts], counts, "ticks")
+    is_same(played.script_of(b"IDENT 3:0\r\n  enddata; 1 ! the end\r\ngo\r\ntick"), [b"go", b"tick"], "the script")
+    with cuedesk.Desk(SHOW) as desk, contextlib.redirect_stdout(io.StringIO()), contextlib.redirect_stderr(io.StringIO()) as said:
+        desk.tick(99_999_990)
+        played.play(desk, [b"go", b"tick 50", b"goto 9"], 1)
+        is_same((desk.state().moment, said.getvalue().splitlines()), (200_000_000, ["tick 50: refused TickLimit 200000000", "goto 9: refused AbsentCue 9"]), "the last moment")
+    for name in ("rehearsal.py", "to_olad.py"):
+        for words, status, part in ((["/nowhere.asc"], 1, b"/nowhere.asc: No such file"), ([os.path.join(TOP, "examples", "first.asc"), "--universes", "33"], 2, b"from 1 to 32")):
+            ended = subprocess.run([sys.executable, os.path.join(EXAMPLES, name), *words], stderr=subprocess.PIPE, timeout=SECONDS)
+            if ended.returncode != status or part not in ended.stderr or b"Traceback" in ended.stderr:
+                raise AssertionError(f"{name} {words}: status {ended.returncode}, {ended.stderr!r}")
+
+
 def olad():
     """Frames go to an olad, or one line says why not."""
     said = run([shutil.which("python3", path="/usr/bin") or sys.executable, os.path.join(EXAMPLES, "to_olad.py"), os.path.join(TOP, "examples", "first.asc")])
@@ -256,8 +315,8 @@ def olad():
     print(said.decode().strip() or "to_olad: played")
 
 
-TESTS = [names, misuse, misuse_sanitized, wants, wants_sanitized, header_in_cpp, bars, installed, module, states, long_replies, rehearsal, olad, examples,
-         random_walks]
+TESTS = [names, misuse, misuse_sanitized, wants, wants_sanitized, header_in_cpp, bars, bars_of_any_lines, installed, in_a_checkout, module, states, long_replies, rehearsal,
+         rehearsal_of_any_lines, olad, examples, random_walks]
 
 
 def main():

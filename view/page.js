@@ -151,8 +151,8 @@ function drawGrid(force) {
     if (next && +next.dataset.k === k) { put(); next = from = next.nextElementSibling; } else out += cueRow(k, first, last);
   }
   put();
-  const name = k => D.cues[cues()[k][0]][0];
-  get("sight").textContent = bottom - top >= cues().length && last - first >= columns.length ? "" : `In sight: cues ${name(top)} to ${name(bottom - 1)} of ${count(cues().length)} cues, ${count(last - first)} of ${count(columns.length)} channels; the others are drawn as they come into sight.`;
+  const name = k => D.cues[cues()[k][0]][0], listed = cues().length ? `cues ${name(top)} to ${name(bottom - 1)} of ${many(cues().length, "cue")}, ` : "";
+  get("sight").textContent = bottom - top >= cues().length && last - first >= columns.length ? "" : `In sight: ${listed}${count(last - first)} of ${many(columns.length, "channel")}; the others are drawn as they come into sight.`;
   activate();
 }
 
@@ -181,6 +181,7 @@ function moveTo(row, column) {
 }
 
 function gridKey(event) {
+  if (event.altKey || event.metaKey) return;
   const [r, c] = cell, page = Math.max(1, Math.floor(get("grid").clientHeight / LINE) - 4), end = FIXED.length + columns.length;
   const to = { ArrowUp: [r - 1, c], ArrowDown: [r + 1, c], ArrowLeft: [r, c - 1], ArrowRight: [r, c + 1], PageUp: [r - page, c], PageDown: [r + page, c],
     Home: event.ctrlKey ? [0, 0] : [r, 0], End: event.ctrlKey ? [cues().length + 1, end] : [r, end] }[event.key];
@@ -403,6 +404,7 @@ function choose() {
 function scale(factor) { zoom = Math.max(1, Math.min(64, zoom * factor)); drawRoll(); const x = across(axis[at]); get("roll").scrollLeft += x - width() / 2; drawRoll(); }
 
 function pageKey(event) {
+  if (event.altKey || event.ctrlKey || event.metaKey) return;
   const on = event.target.tagName;
   if (event.key === " " && on !== "BUTTON" && on !== "SELECT") { event.preventDefault(); play(); }
   if (on === "INPUT" || on === "SELECT" || !["ArrowLeft", "ArrowRight"].includes(event.key)) return;

@@ -17,7 +17,7 @@ from operator import itemgetter
 from typing import Iterable
 
 from rehearsal import Rehearsal, Step, rehearse, split_list, used_channels
-from shows import LONGEST_LINE, MEANINGS, Cue, Line, Program, ViewError, default_program, lines_of, shown
+from shows import LONGEST_LINE, MEANINGS, Cue, Line, Program, ViewError, default_program, lines_of, shown, write_out
 
 HERE = os.path.dirname(os.path.abspath(__file__))
 # How many bytes of a reply are kept beside its line.
@@ -81,8 +81,8 @@ def cue_name(key: int) -> str:
 def mark_of(line: Line, step: Step, job: str) -> str:
     """The name of a line in the time line; a key is followed by its cue."""
     which, words = split_list(line.words, job)
-    name = shown(line.text).split("!")[0].strip() if words[0] != "label" else shown(line.text).strip()
-    return f"{name} → {cue_name(step.running[which])}" if words[0] in ("go", "back") else name
+    name = shown(line.text).split("!")[0].strip() if words[:1] != ["label"] else shown(line.text).strip()
+    return f"{name} → {cue_name(step.running[which])}" if line.accepted() and words[0] in ("go", "back") else name
 
 
 def marks(rehearsal: Rehearsal) -> list[list[object]]:
@@ -213,10 +213,10 @@ def main() -> int:
     given = options()
     try:
         rehearsal = rehearse(Program(given.program or default_program()), given.show, given.script, given.job, given.states)
+        write_out((fault_page if rehearsal.fault else rehearsal_page)(rehearsal))
     except ViewError as error:
         print(f"page.py: {error}", file=sys.stderr)
         return 2
-    sys.stdout.buffer.write((fault_page if rehearsal.fault else rehearsal_page)(rehearsal).encode("utf-8", "replace"))
     return 1 if rehearsal.fault else 0
 
 

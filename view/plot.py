@@ -8,19 +8,22 @@ that names it, and the status is 1.
 """
 import argparse
 import html
+import re
 import sys
 from dataclasses import dataclass
 
 from playback import hundredths, key_of
 from rehearsal import Rehearsal, rehearse, split_list, used_channels
 from page import marks
-from shows import MEANINGS, Cue, Program, ViewError, default_program, percent, shown
+from shows import MEANINGS, Cue, Program, ViewError, default_program, percent, shown, write_out
 
 LEFT, TOP, WIDE, GAP, FOOT = 72, 74, 900, 12, 40
 # A rest of more than ten seconds takes two along the axis.
 REST, SHORT = 1000, 200
 # How many channels are drawn where none are named.
 FIRST = 12
+# What may not stand in XML, escaped or not.
+NO_XML = re.compile("[^\t\n\r -\ud7ff\ue000-\ufffd\U00010000-\U0010ffff]")
 INKS = ("#0072b2", "#b05c00", "#007a5a", "#a3447a", "#5b5bd6", "#8a6d00")
 DARK_INKS = ("#56b4e9", "#f0b040", "#35b58a", "#e08fbe", "#a5a5ff", "#d8c040")
 STYLE = """
@@ -33,6 +36,11 @@ DARK_STYLE = """
 text { fill: #dfe2e7 } .paper { fill: #14161a } .grid { stroke: #363b44 } .dim { fill: #a0a8b3 } .key { stroke: #dfe2e7 } .follow { stroke: #7cc4f0 }
 .edit, .fader { stroke: #ffc04d } .wrong { stroke: #ff9d6b } .ring { fill: #14161a; stroke: #ff9d6b } .cut { fill: #ff9d6b } .over { stroke: #14161a } #hatch path { stroke: #a0a8b3 }
 """
+
+
+def escaped(text: str) -> str:
+    """A text as XML may have it."""
+    return html.escape(NO_XML.sub("\ufffd", text))
 
 
 @dataclass
@@ -78,12 +86,12 @@ def lines_over(plot: Plot) -> list[str]:
         name = ("✗ " if kind == "wrong" else "") + (text if len(text) <= 34 else text[:33] + "…")
         row = next((i for i, end in enumerate(free) if end <= x), None)
         top = TOP - 8 if row is None else 22 + row * 15
-        out.append(f'<path class="{kind}" d="M{x:.1f} {top}V{plot.bottom()}"><title>{html.escape(text)}</title></path>')
+        out.append(f'<path class="{kind}" d="M{x:.1f} {top}V{plot.bottom()}"><title>{escaped(text)}</title></path>')
         if row is not None:
             long = len(name) * 7 + 12
             back = x + long > LEFT + WIDE + 40 and x - long > free[row]
             free[row] = x + (4 if back else long)
-            out.append(f'<text x="{x - 4 if back else x + 4:.1f}" y="{top + 9}"{" text-anchor=" + chr(34) + "end" + chr(34) if back else ""}>{html.escape(name)}</text>')
+            out.append(f'<text x="{x - 4 if back else x + 4:.1f}" y="{top + 9}"{" text-anchor=" + chr(34) + "end" + chr(34) if back else ""}>{escaped(name)}</text>')
     return out
 
 
@@ -197,7 +205,7 @@ def inks(dark: bool) -> str:
 def picture(title: str, height: int, parts: list[str]) -> str:
     """An SVG with its styles in it, light or dark as its reader's."""
     head = (f'<svg xmlns="http://www.w3.org/2000/svg" width="{LEFT + WIDE + 40}" height="{height}" viewBox="0 0 {LEFT + WIDE + 40} {height}" role="img" aria-labelledby="name">'
-            f'<title id="name">{html.escape(title)}</title>\n<style>{STYLE}{inks(False)}\n@media (prefers-color-scheme: dark) {{{DARK_STYLE}{inks(True)}}}</style>\n'
+            f'<title id="name">{escaped(title)}</title>\n<style>{STYLE}{inks(False)}\n@media (prefers-color-scheme: dark) {{{DARK_STYLE}{inks(True)}}}</style>\n'
             '<defs><pattern id="hatch" width="6" height="6" patternUnits="userSpaceOnUse" patternTransform="rotate(45)"><path d="M0 0V6" stroke="#8a929c" stroke-width="1.5"/></pattern></defs>\n'
             '<rect class="paper" width="100%" height="100%"/>\n')
     return head + "\n".join(parts) + "\n</svg>\n"
@@ -214,11 +222,11 @@ def drawn(rehearsal: Rehearsal, channels: list[int], left_out: int) -> str:
         notes.append(f"{wrong} {'line' if wrong == 1 else 'lines'} of the script (✗) {'was' if wrong == 1 else 'were'} refused or bad, and changed nothing.")
     if left_out:
         notes.append(f"{left_out} further channels are in use; --channels names others.")
-    parts = [f'<text x="{LEFT}" y="15" font-weight="bold">{html.escape(name)}</text>', *seconds_under(plot), *delays(plot)]
+    parts = [f'<text x="{LEFT}" y="15" font-weight="bold">{escaped(name)}</text>', *seconds_under(plot), *delays(plot)]
     for lane, channel in enumerate(channels):
         parts += lane_of(plot, lane, channel)
     parts += lines_over(plot) + interrupted(plot)
-    parts += [f'<text class="dim" x="{LEFT}" y="{plot.bottom() + 36 + 15 * i}">{html.escape(note)}</text>' for i, note in enumerate(notes)]
+    parts += [f'<text class="dim" x="{LEFT}" y="{plot.bottom() + 36 + 15 * i}">{escaped(note)}</text>' for i, note in enumerate(notes)]
     return picture(f"Outputs of channels {', '.join(map(str, channels))} in {name}", plot.bottom() + FOOT + 15 * len(notes), parts)
 
 
@@ -226,7 +234,7 @@ def fault(rehearsal: Rehearsal) -> str:
     """The picture of a show that is refused."""
     cause, line = rehearsal.fault
     text = f"{shown(rehearsal.source.name)}: ✗ this show is refused: {cause}, line {line}: {MEANINGS.get(cause, '')}."
-    return picture(text, 60, [f'<text class="cut" x="20" y="34">{html.escape(text)}</text>'])
+    return picture(text, 60, [f'<text class="cut" x="20" y="34">{escaped(text)}</text>'])
 
 
 def channel_list(text: str) -> list[int]:
@@ -258,13 +266,13 @@ def main() -> int:
     try:
         rehearsal = rehearse(Program(given.program or default_program()), given.show, given.script, given.job, given.states)
         if rehearsal.fault:
-            sys.stdout.write(fault(rehearsal))
+            write_out(fault(rehearsal))
             return 1
         used = used_channels(rehearsal)
         channels = given.channels or used[:FIRST]
         if max(channels, default=0) > rehearsal.channels:
             raise ViewError(f"the show has no channel {max(channels)}; it has {rehearsal.channels}")
-        sys.stdout.write(drawn(rehearsal, channels, 0 if given.channels else len(used) - len(channels)))
+        write_out(drawn(rehearsal, channels, 0 if given.channels else len(used) - len(channels)))
         return 0
     except ViewError as error:
         print(f"plot.py: {error}", file=sys.stderr)

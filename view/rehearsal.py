@@ -6,7 +6,7 @@ import re
 from dataclasses import dataclass, field
 
 from playback import Playback, Structure, structure_of
-from shows import LONGEST_LINE, Cue, Line, Program, Sources, ViewError, cells_of, check, cue_text, members_of, sources, with_rows
+from shows import LONGEST_LINE, Cue, Line, Program, Sources, ViewError, cells_of, check, cue_text, members_of, shown, sources, with_rows
 
 KEYS = ("go", "back", "goto", "settle")
 NOT_EDITS = (*KEYS, "fader", "master", "tick", "frame", "sheet", "save")
@@ -62,7 +62,7 @@ def rehearse(program: Program, show_path: str, script_path: str | None, job: str
         rehearsal.fault = said[1], int(said[2])
         return rehearsal
     if status:
-        raise ViewError(f"the program ended with status {status} on {source.name}")
+        raise ViewError(f"the program ended with status {status} on {shown(source.name)}")
     rehearsal.channels, rehearsal.skipped = int(said[4]), (int(said[6]), int(said[8]))
     answer(program, rehearsal)
     shows = structures(program, rehearsal)
@@ -76,7 +76,7 @@ def answer(program: Program, rehearsal: Rehearsal) -> None:
     source = rehearsal.source
     status, text = program.ask(rehearsal.words, source.show + "".join(line.text + "\n" for line in source.lines))
     if status:
-        raise ViewError(f"the program ended with status {status} on the script {source.script_name}")
+        raise ViewError(f"the program ended with status {status} on the script {shown(source.script_name)}")
     replies = iter(text.split("\n"))
     for i, line in enumerate(source.lines):
         long = len(line.text.replace("\r", "")) > LONGEST_LINE

@@ -5,6 +5,7 @@ Texts are held as Latin-1, so that each byte of a show is one character and goes
 import os
 import re
 import subprocess
+import sys
 from dataclasses import dataclass, field
 
 TOP = os.path.dirname(os.path.dirname(os.path.abspath(__file__)))
@@ -124,6 +125,11 @@ def shown(text: str) -> str:
     return text.encode("latin-1").decode("utf-8", "replace")
 
 
+def name_of(path: str) -> str:
+    """A file's name, as texts are held here."""
+    return os.path.basename(path).encode("utf-8", "surrogateescape").decode("latin-1")
+
+
 def percent(level: int) -> str:
     """A level as desks show it: per cent, FL for full, and nothing below 1 % but 0."""
     return "FL" if level == 255 else f"{min(99, max(1, (level * 200 + 255) // 510))} %" if level else "0"
@@ -136,6 +142,17 @@ def read_file(path: str) -> str:
             return file.read().decode("latin-1")
     except OSError as error:
         raise ViewError(f"{path} can't be read: {error.strerror}") from error
+
+
+def write_out(text: str) -> None:
+    """Puts a text on standard output, as UTF-8 in any locale."""
+    try:
+        sys.stdout.buffer.write(text.encode("utf-8", "replace"))
+        sys.stdout.buffer.flush()
+    except OSError as error:
+        # What is left of it isn't tried again at the end.
+        os.dup2(os.open(os.devnull, os.O_WRONLY), sys.stdout.fileno())
+        raise ViewError(f"the output can't be written: {error.strerror}") from error
 
 
 def lines_of(text: str) -> list[str]:
@@ -155,7 +172,7 @@ def sources(show_path: str, script_path: str | None) -> Sources:
     end = next((i + 1 for i, line in enumerate(lines) if ends_show(line)), len(lines))
     behind = lines[end:] if script_path is None else lines_of(read_file(script_path))
     first = end + 1 if script_path is None else 1
-    return Sources(os.path.basename(show_path), "".join(line + "\n" for line in lines[:end]), os.path.basename(script_path or show_path),
+    return Sources(name_of(show_path), "".join(line + "\n" for line in lines[:end]), name_of(script_path or show_path),
                    [Line(first + i, line) for i, line in enumerate(behind)], any(tokens(line) for line in behind))
 
 

@@ -5,7 +5,7 @@
 
 The outlets are the named pipes (or files) universe-1.txt to universe-U.txt in the folder. Bars where all slots that were ever up fit,
 else a grid of 512 to a universe; arrow keys move where there is more than a screen, q ends. At the end the terminal is as it was, and
-the last stage stands below as lines. Where standard output is no terminal, each draw is a line a universe.
+the last stage stands below as lines. Where standard output is no terminal, or one that isn't known here, each draw is a line a universe.
 """
 import argparse
 import curses
@@ -42,12 +42,12 @@ class Universe:
     open: bool = True
 
     def take(self, line: str) -> None:
-        """A line of the outlet: `frame COUNT MOMENT UNIVERSE` and `slot=value` for each slot that isn't 0."""
+        """A line of the outlet: `frame COUNT MOMENT UNIVERSE` and `slot=value` for each slot that isn't 0. One that was cut off is no frame."""
         self.lines += 1
         try:
             word, count, moment, universe, *cells = line.split()
             pairs = [tuple(map(int, cell.split("="))) for cell in cells]
-            if word != "frame" or int(universe) != self.number or any(not (1 <= s <= SLOTS and 0 <= v <= 255) for s, v in pairs):
+            if not line.endswith("\n") or word != "frame" or int(universe) != self.number or any(not (1 <= s <= SLOTS and 0 <= v <= 255) for s, v in pairs):
                 raise ValueError(line)
             self.count, self.moment, self.levels, self.said = int(count), int(moment), bytearray(SLOTS), ""
         except ValueError:
@@ -123,11 +123,11 @@ def bar_rows(universe: Universe, columns: int, fine: bool) -> Iterator[Row]:
         yield [Piece(f" {slot:4} ", "dim"), Piece(bar(level, wide, fine), "bar", level), Piece(f" {percent(level):>5}")]
 
 
-def grid_rows(universe: Universe, columns: int) -> Iterator[Row]:
+def grid_rows(universe: Universe, columns: int, fine: bool) -> Iterator[Row]:
     """All 512 slots, 32 to a row where they fit: per cent, FL for full, a dot for a slot that is dark. Where cells touch, every second is underlined."""
     across, wide = next(((n, w) for n, w in GRIDS if 7 + n * w <= columns), GRIDS[-1])
     for first in range(0, SLOTS, across):
-        cells = [(percent(level).replace(" %", "") if level else "·").rjust(min(2, wide)) for level in universe.levels[first:first + across]]
+        cells = [(percent(level).replace(" %", "") if level else "·" if fine else ".").rjust(min(2, wide)) for level in universe.levels[first:first + across]]
         row = [Piece(f"{first + 1:4}  ", "dim")]
         for i, text in enumerate(cells):
             row += [Piece(text, "odd" if wide == 2 and i % 2 else "cell", universe.levels[first + i]), Piece(" " * (wide - 2))]
@@ -140,7 +140,7 @@ def rows_of(stage: Stage, columns: int, rows: int, fine: bool) -> list[Row]:
     bars = stage.bars_fit(rows)
     for universe in stage.universes:
         out.append([Piece(universe.head(), "head")])
-        out += bar_rows(universe, columns, fine) if bars else grid_rows(universe, columns)
+        out += bar_rows(universe, columns, fine) if bars else grid_rows(universe, columns, fine)
     return out
 
 
@@ -253,12 +253,21 @@ def last_stage(stage: Stage, fine: bool) -> str:
 
 def run_screen(stage: Stage) -> None:
     """The terminal's stage; whatever ends it, the terminal is as it was."""
-    fine = locale.getpreferredencoding(False).upper().replace("-", "") == "UTF8"
+    fine = locale.nl_langinfo(locale.CODESET).upper().replace("-", "") == "UTF8"
     try:
         curses.wrapper(lambda window: Screen(window, stage, fine).run())
     finally:
         sys.stdout.write(last_stage(stage, fine))
         sys.stdout.flush()
+
+
+def is_known_terminal() -> bool:
+    """Whether the machine knows how to draw on the terminal."""
+    try:
+        curses.setupterm()
+    except curses.error:
+        return False
+    return True
 
 
 def universe_count(text: str) -> int:
@@ -289,7 +298,7 @@ def main() -> int:
         return 1
     stage.start(given.folder)
     try:
-        if given.plain or not sys.stdout.isatty():
+        if given.plain or not sys.stdout.isatty() or not is_known_terminal():
             run_plain(stage, lambda line: print(line, flush=True))
         else:
             run_screen(stage)

@@ -20,7 +20,7 @@ MOMENT = "[document.getElementById('now').textContent, document.querySelector('.
 
 def make(program: str, folder: str, show: str, *more: str) -> tuple[str, int]:
     """Makes a page; its path and the status."""
-    path = os.path.join(folder, os.path.basename(show) + ".html")
+    path = os.path.join(folder, os.path.basename(show).encode(errors="ignore").decode() + ".html")
     with open(path, "wb") as file:
         run = subprocess.run([sys.executable, PAGE, show, "--program", program, *more], stdout=file, check=False)
     return path, run.returncode
@@ -138,6 +138,11 @@ def lines_between(browser: Browser, asked: Asked) -> list[str]:
     return wrong
 
 
+# Whether the page takes the browser's own ways back and forth, by place and by key that is held.
+TAKEN = """['body', '#grid', '#roll'].flatMap(place => ['altKey', 'ctrlKey', 'metaKey'].filter(held =>
+  !document.querySelector(place).dispatchEvent(new KeyboardEvent('keydown', {key: 'ArrowLeft', [held]: true, bubbles: true, cancelable: true})) && !(place === '#grid' && held === 'ctrlKey')).map(held => place + ' ' + held))"""
+
+
 def keyboard(program: str, folder: str) -> list[str]:
     """The keyboard alone reaches the list and each number in it, and each is said in words."""
     show = os.path.join(TOP, "examples/fades.asc")
@@ -169,6 +174,7 @@ def keyboard(program: str, folder: str) -> list[str]:
         if words != "up: 5 seconds":
             wrong.append(f"the up time of cue 3 is said as {words!r}")
         wrong += lines_between(browser, asked)
+        wrong += [f"the browser doesn't get {each} and an arrow" for each in browser.value(TAKEN)]
     return wrong
 
 
@@ -221,8 +227,6 @@ def colours(program: str, folder: str) -> list[str]:
 
 def printed(program: str, folder: str) -> list[str]:
     """What is printed has each cue and its levels."""
-    if not shutil.which("pdftotext"):
-        return []
     path, _ = make(program, folder, os.path.join(TOP, "examples/play.asc"))
     paper = os.path.join(folder, "page.pdf")
     with Browser() as browser:
@@ -315,6 +319,9 @@ def bad_input(program: str, folder: str) -> list[str]:
           "refused AbsentChannel 999", "line 12", "longer than 4,096 bytes", "<script>alert(1)</script> & Tür"]),
         ("noscript", good + "ENDDATA\n", 0, ["There is no script", "Cue list", "FL"]),
         ("nocue", "IDENT 3:0\nENDDATA\ngo\n", 0, ["The show has no cue.", "refused NoCueAfter 0"]),
+        ("groups", "IDENT 3:0\nGROUP 1\nCHAN " + " ".join(f"{c}@FL" for c in range(1, 201)) + "\nENDDATA\n", 0, ["In sight: ", " of 200 channels", "The show has no cue."]),
+        ("Bühne 客席 <b>", good + "ENDDATA\ngo\n", 0, ["Bühne 客席 <b>.asc"]), (os.fsdecode(b"B\xfchne"), good + "ENDDATA\ngo\n", 0, ["B\ufffdhne.asc"]),
+        ("comment", good + "ENDDATA\n!" + "y" * 4097 + "\n", 0, ["line 7", "longer than 4,096 bytes"]),
         ("skipped", good + "WEATHER fine\n$$SNAP 1\nENDDATA\n", 0, ["2 lines of the show were skipped, the first of them line 6: WEATHER fine"]),
     ]
     wrong = []
@@ -326,6 +333,30 @@ def bad_input(program: str, folder: str) -> list[str]:
         said = read_page(path)
         wrong += [f"{name}: {part!r} isn't said" for part in wanted if part not in said] + ([f"{name}: status {ended}"] if ended != status else [])
     return wrong + missing(program, folder)
+
+
+def lines_of_two_lists(program: str, folder: str) -> list[str]:
+    """A line for the second list that says nothing is bad; a key that was refused isn't named by a cue."""
+    show = os.path.join(folder, "two.asc")
+    with open(show, "w", encoding="utf-8") as file:
+        file.write("IDENT 3:0\nCUE 1\nCHAN 1@FL\nENDDATA\ngo\n2\ngo\n")
+    path, _ = make(program, folder, show, "--job", "two")
+    with Browser() as browser:
+        browser.open(path)
+        marks = browser.value("D.marks.map(mark => mark[2])")
+    return [] if marks == ["go → 1", "2", "go"] else [f"the marks are {marks}"]
+
+
+def cues_that_go(program: str, folder: str) -> list[str]:
+    """The page goes on where an edit takes the last cue away, in a show of more channels than are in sight."""
+    show = os.path.join(folder, "gone.asc")
+    with open(show, "w", encoding="utf-8") as file:
+        file.write("IDENT 3:0\nCUE 1\nCHAN " + " ".join(f"{c}@FL" for c in range(1, 201)) + "\nENDDATA\ngo\ntick 5\ndelete 1\ntick 5\n")
+    path, _ = make(program, folder, show)
+    with Browser() as browser:
+        browser.open(path)
+        last = browser.value("(show(M - 1), document.getElementById('sight').textContent)")
+    return [] if re.match(r"In sight: \d+ of 200 channels;", last) else [f"at the end it says {last!r}"]
 
 
 def missing(program: str, folder: str) -> list[str]:
@@ -364,6 +395,9 @@ def cases(report: list[str]) -> list[tuple[str, object]]:
     """What is tested, by name."""
     shows = [("fades.asc", "render"), ("edits.asc", "render"), ("submasters.asc", "render"), ("house.asc", "render"), ("universes.asc", "render"), ("assert.asc", "render"),
              ("tracking.asc", "render states"), ("undo.asc", "undo"), ("lists.asc", "two")]
+    on_paper = [("page: print", printed)] if shutil.which("pdftotext") else []
+    if not on_paper:
+        report.append("left out: the printed page; apt-get install poppler-utils")
     return [*[(f"page: ten moments of {name}, {job}", lambda p, f, name=name, job=job: steps_through(p, f, name, job)) for name, job in shows],
             ("page: a long fade", long_fade), ("page: play and pause", lambda p, f: plays(p, f, "fades.asc")), ("page: keyboard", keyboard), ("page: names", names), ("page: colours", colours),
-            ("page: print", printed), ("page: no network", alone), ("page: bad input", bad_input), ("page: the greatest show", lambda p, f: great(p, f, report))]
+            *on_paper, ("page: no network", alone), ("page: bad input", bad_input), ("page: lines of two lists", lines_of_two_lists), ("page: cues that go", cues_that_go), ("page: the greatest show", lambda p, f: great(p, f, report))]

@@ -90,8 +90,33 @@ def bad_input(program: str, folder: str) -> list[str]:
     return wrong + ([] if run.returncode == 2 and b"no channel 600" in run.stderr and not run.stdout else ["channel 600 isn't named"])
 
 
+def full_device(program: str, _: str) -> list[str]:
+    """Where what is made can't be written, one line says so, and the status is 2."""
+    wrong = []
+    for name in ("plot.py", "page.py"):
+        with open("/dev/full", "wb") as full:
+            words = [sys.executable, os.path.join(TOP, "view", name), os.path.join(TOP, "examples/first.asc"), "--program", program]
+            run = subprocess.run(words, stdout=full, stderr=subprocess.PIPE, check=False)
+        wrong += [] if (run.returncode, run.stderr) == (2, f"{name}: the output can't be written: No space left on device\n".encode()) else [f"{name}: status {run.returncode}, {run.stderr[-300:]!r}"]
+    return wrong
+
+
+def any_text(program: str, folder: str) -> list[str]:
+    """File names and texts of any letters, and what XML can't have: the picture can be read, in any locale."""
+    wrong = []
+    name = "Bühne 客席 <&>.asc"
+    show = os.path.join(folder, name)
+    with open(show, "w", encoding="utf-8") as file:
+        file.write("IDENT 3:0\nCUE 1\nCHAN 1@FL\nENDDATA\ngo\ntick 5\nlabel 1 Tür\x01<&>\x1b[1m\ntick 5\n")
+    for locale in ("C.UTF-8", "POSIX"):
+        run = subprocess.run([sys.executable, PLOT, show, "--program", program], stdout=subprocess.PIPE, env={**os.environ, "LC_ALL": locale, "PYTHONIOENCODING": "ascii"}, check=False)
+        said = "".join(tree.fromstring(run.stdout).itertext()) if run.returncode == 0 else ""
+        wrong += [f"{locale}: {part!r} isn't said" for part in (name, "label 1 Tür\ufffd<&>\ufffd[1m") if part not in said]
+    return wrong
+
+
 def cases() -> list[tuple[str, object]]:
     """What is tested, by name."""
     shows = [("fades.asc", [1, 2, 3]), ("live.asc", [1, 2, 3, 4]), ("play.asc", [1, 3, 9, 21])]
     return [*[(f"plot: ten moments of {name}", lambda p, f, name=name, channels=channels: ten_moments(p, f, name, channels)) for name, channels in shows],
-            ("plot: keys, delays, interrupted fades", marks), ("plot: bad input", bad_input)]
+            ("plot: keys, delays, interrupted fades", marks), ("plot: bad input", bad_input), ("plot: any text", any_text), ("plot and page: a full device", full_device)]

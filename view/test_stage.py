@@ -1,6 +1,7 @@
 """The stage, looked at in a terminal of tmux while a live run goes on, and its lines where there is no terminal."""
 import itertools
 import os
+import pty
 import re
 import subprocess
 import sys
@@ -202,6 +203,29 @@ def script(program: str, folder: str) -> list[str]:
         return wrong + ([] if any("ended 0" in line for line in screen) else [f"it ended so: {screen[-3:]}"])
 
 
+def unknown_terminal(_: str, folder: str) -> list[str]:
+    """On a terminal of which the machine has no description: lines."""
+    place = os.path.join(folder, "unknown")
+    os.mkdir(place)
+    with open(os.path.join(place, "universe-1.txt"), "w", encoding="utf-8") as file:
+        file.write("frame 1 2 1 5=128\n")
+    terminal, inside = pty.openpty()
+    run = subprocess.run([sys.executable, STAGE, "1", "--folder", place], stdin=inside, stdout=inside, stderr=subprocess.PIPE, env={**os.environ, "TERM": "no-such-terminal"}, timeout=20, check=False)
+    said = os.read(terminal, 65_536).decode() if run.returncode == 0 else ""
+    os.close(inside)
+    os.close(terminal)
+    return [] if "universe 1  0.02 s" in said and not run.stderr else [f"status {run.returncode}, {said!r}, {run.stderr[-200:]!r}"]
+
+
+def script_to_its_end(program: str, folder: str) -> list[str]:
+    """examples/live.sh that plays to its end: status 0, and nothing is left."""
+    place = os.path.join(folder, "script")
+    os.mkdir(place)
+    run = subprocess.run([os.path.join(TOP, "examples/live.sh")], stdin=subprocess.DEVNULL, stdout=subprocess.PIPE, stderr=subprocess.PIPE, env={**os.environ, "CUEDESK": program, "TMPDIR": place}, timeout=60, check=False)
+    wrong = [] if b"universe 2  8.00 s" in run.stdout else [f"it says {run.stdout[-200:]!r}"]
+    return wrong + ([] if (run.returncode, run.stderr, os.listdir(place)) == (0, b"", []) else [f"status {run.returncode}, {run.stderr!r}, left {os.listdir(place)}"])
+
+
 def lines(program: str, folder: str) -> list[str]:
     """Without a terminal: lines, at most 25 a second for a universe, and the last of each is the last frame."""
     place = outlets(folder, "lines", 2)
@@ -222,18 +246,38 @@ def bad_input(_: str, folder: str) -> list[str]:
     for words, status, said in ((["2", "--folder", folder], 1, b"there is no outlet"), (["0"], 2, b"isn't a number from 1 to 32"), (["33"], 2, b"isn't a number"), (["x"], 2, b"isn't a number")):
         run = subprocess.run([sys.executable, STAGE, *words], capture_output=True, check=False)
         wrong += [f"{words}: status {run.returncode}, {run.stderr!r}"] * (run.returncode != status or said not in run.stderr)
-    with open(os.path.join(folder, "universe-1.txt"), "w", encoding="utf-8") as file:
-        file.write("frame 1 2 1 5=128\nframe 2 4 2 5=99\n")
-    run = subprocess.run([sys.executable, STAGE, "1", "--folder", folder], capture_output=True, check=False)
-    wanted = "universe 1  0.02 s  after 1 command, 1 slot up, closed  (line 2 of universe-1.txt is no frame of this universe): 5=50%"
-    return wrong + ([] if run.stdout.decode().splitlines()[-1] == wanted else [f"{run.stdout!r}"])
+    # A frame of another universe, and one that was cut off.
+    for second in ("frame 2 4 2 5=99\n", "frame 2 4 1 5=9"):
+        with open(os.path.join(folder, "universe-1.txt"), "w", encoding="utf-8") as file:
+            file.write("frame 1 2 1 5=128\n" + second)
+        run = subprocess.run([sys.executable, STAGE, "1", "--folder", folder], capture_output=True, check=False)
+        wanted = "universe 1  0.02 s  after 1 command, 1 slot up, closed  (line 2 of universe-1.txt is no frame of this universe): 5=50%"
+        wrong += [] if run.stdout.decode().splitlines()[-1] == wanted else [f"{run.stdout!r}"]
+    return wrong
+
+
+def plain_letters(_: str, folder: str) -> list[str]:
+    """In a locale without blocks the bars are of ASCII, and so are the dots of a grid."""
+    wrong = []
+    for name, cells, wanted in (("few", "1=255", r"^    1 #{60,} +FL$"), ("many", " ".join(f"{slot}=255" for slot in range(2, 512, 2)), r"^   1   \.FL \.FL")):
+        place = outlets(folder, name, 1)
+        with Terminal(80, 24) as terminal:
+            terminal.type(f"LC_ALL=C {sys.executable} {STAGE} 1 --folder {place}")
+            with open(os.path.join(place, "universe-1.txt"), "w", encoding="ascii") as outlet:
+                outlet.write(f"frame 1 2 1 {cells}\n")
+                outlet.flush()
+                try:
+                    terminal.until(wanted, 5)
+                except TimeoutError as error:
+                    wrong.append(str(error))
+    return wrong
 
 
 def plain_cases() -> list[tuple[str, object]]:
     """What needs no terminal."""
-    return [("stage: lines", lines), ("stage: bad input", bad_input)]
+    return [("stage: lines", lines), ("stage: live.sh to its end", script_to_its_end), ("stage: unknown terminal", unknown_terminal), ("stage: bad input", bad_input)]
 
 
 def cases() -> list[tuple[str, object]]:
     """What needs tmux."""
-    return [("stage: bars", bars), ("stage: Ctrl-C and size", interrupt), ("stage: grid", grid), ("stage: live.sh", script)]
+    return [("stage: bars", bars), ("stage: Ctrl-C and size", interrupt), ("stage: grid", grid), ("stage: ASCII", plain_letters), ("stage: live.sh", script)]

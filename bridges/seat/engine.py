@@ -59,12 +59,8 @@ class Sub:
 
 
 def library() -> ModuleType:
-    """The hosts' module for Python, over the library that `make -C host` builds, or the one that CUEDESK_LIBRARY names."""
-    host = os.path.join(TOP, "host")
-    built = os.path.join(host, "build", "libcuedesk.so.1")
-    if os.path.exists(built):
-        os.environ.setdefault("CUEDESK_LIBRARY", built)
-    sys.path.append(os.path.join(host, "python"))
+    """The hosts' module for Python, over the library that `make -C host` built, else the released one, or the one that CUEDESK_LIBRARY names."""
+    sys.path.append(os.path.join(TOP, "host", "python"))
     try:
         return importlib.import_module("cuedesk")
     except (ImportError, OSError, AttributeError) as error:

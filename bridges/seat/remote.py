@@ -4,6 +4,7 @@ import io
 import math
 import os
 import socket
+import time
 from typing import Callable, Dict, List, Tuple, Union
 
 from .engine import Fault
@@ -20,6 +21,8 @@ Value = Union[int, float, str]
 # How many packets are taken between two ticks at most, and how many subscribers are told of what runs.
 PACKETS = 32
 SUBSCRIBERS = 16
+# How a bundle begins, how long that and its time are, and the seconds of OSC's times, which count from 1900, at the beginning of 1970.
+BUNDLE, BUNDLE_HEAD, EPOCH = b"#bundle\0", 16, 2_208_988_800
 KEYS = {"/cuedesk/go": "go", "/cuedesk/back": "back", "/cuedesk/settle": "settle"}
 NUMBERS = "ihfd"
 
@@ -28,9 +31,19 @@ class Refused(Exception):
     """Why a message is refused."""
 
 
+def is_word(value: Value, kind: str) -> bool:
+    """Whether it is a text that stands for one word of a line."""
+    return kind == "s" and is_line(str(value)) and len(tokens(str(value))) == 1
+
+
+def is_line(text: str) -> bool:
+    """Whether it is within one line."""
+    return "\n" not in text and "\r" not in text
+
+
 def cue_of(value: Value, kind: str) -> str:
     """A cue number, as a number or as a text."""
-    if kind == "s" and len(tokens(str(value))) == 1:
+    if is_word(value, kind):
         return str(value)
     if kind in NUMBERS and math.isfinite(float(value)):
         return f"{float(value):.3f}".rstrip("0").rstrip(".")
@@ -50,7 +63,7 @@ def level_of(value: Value, kind: str) -> str:
         return f"H{int(255 * float(value) + 0.5):02X}"
     if kind in "ih" and 0 <= int(value) <= 100:
         return str(int(value))
-    if kind == "s" and len(tokens(str(value))) == 1:
+    if is_word(value, kind):
         return str(value)
     raise Refused("no level: a part from 0.0 to 1.0, whole per cent, or a text as in a script")
 
@@ -58,7 +71,7 @@ def level_of(value: Value, kind: str) -> str:
 def text_of(value: Value, kind: str) -> str:
     """A line of a script; the seat alone saves and quits."""
     line = str(value)
-    if kind != "s" or "\n" in line or "\r" in line or not tokens(line):
+    if kind != "s" or not is_line(line) or not tokens(line):
         raise Refused("no line of a script")
     if tokens(line) in (["save"], ["quit"]):
         raise Refused("only at the seat")
@@ -110,6 +123,7 @@ class Remote:
                 bound.bind((host, port))
                 # liblo binds to every address of the machine. Its socket is replaced by one that has this address alone.
                 os.dup2(bound.fileno(), self._server.fileno(), inheritable=False)
+                self._packets = bound.dup()
         except liblo.ServerError as error:
             raise Fault(f"OSC: {error}") from error
         except OSError as error:
@@ -124,15 +138,18 @@ class Remote:
     def take(self) -> None:
         """Does what came, but leaves time for ticks."""
         for _ in range(PACKETS):
+            is_later = self._is_for_later()
             # liblo prints a fault of a packet, which is not to stand on the screen.
             with contextlib.redirect_stderr(io.StringIO()):
-                if not self._server.recv(0):
-                    return
-            if not self._came:
-                self._player.refuse("osc", "refused: a packet that is no message")
+                is_packet = self._server.recv(0)
+            # Without a packet these are of a bundle whose time has come.
             came, self._came = self._came, []
             for message in came:
                 self._take(*message)
+            if not is_packet:
+                return
+            if not came and not is_later:
+                self._player.refuse("osc", "refused: a packet that is no message")
 
     def tell(self) -> None:
         """Tells those who subscribed of the cue that runs and of the next one, where these are others than before."""
@@ -144,7 +161,16 @@ class Remote:
 
     def close(self) -> None:
         """Takes nothing any more."""
+        self._packets.close()
         self._server.free()
+
+    def _is_for_later(self) -> bool:
+        """Whether the next packet is a bundle whose time is still to come: liblo keeps it until then."""
+        try:
+            head = self._packets.recv(BUNDLE_HEAD, socket.MSG_PEEK | socket.MSG_DONTWAIT)
+        except OSError:
+            return False
+        return head.startswith(BUNDLE) and int.from_bytes(head[len(BUNDLE):], "big") / (1 << 32) > EPOCH + time.time()
 
     def _keep(self, path: str, values: List[Value], kinds: str, source: "liblo.Address") -> None:
         """Keeps a message until liblo is left."""

@@ -1,4 +1,5 @@
 """Writes a show's text into a file, beside the show that plays on: a slow disk holds up no tick."""
+import errno
 import os
 import queue
 import tempfile
@@ -11,6 +12,8 @@ from .player import Player
 def write_file(path: str, text: bytes) -> None:
     """Puts the text into the file's place once it is whole on the disk; a file that was there before keeps its permissions."""
     path = os.path.realpath(path)
+    if os.path.exists(path) and not os.path.isfile(path):
+        raise OSError(errno.EINVAL, "it is no plain file")
     file, name = tempfile.mkstemp(dir=os.path.dirname(path), prefix=".cuedesk-")
     try:
         with open(file, "wb") as out:
@@ -43,9 +46,13 @@ class Saver:
         self._threads: List[threading.Thread] = []
 
     def begin(self, path: str, text: bytes, then: Optional[Callable[[], None]] = None) -> None:
-        """Begins to write; `then` is called once it is done well."""
+        """Begins to write, once what was begun before is written; `then` is called once it is done well."""
+        before = self._threads[-1] if self._threads else None
+
         def write() -> None:
             """In the thread."""
+            if before:
+                before.join()
             try:
                 write_file(path, text)
                 self._results.put((path, text, None, then))

@@ -1,6 +1,5 @@
 """The seat's screen: cue list, stage, faders, what was said, keys."""
 import curses
-import textwrap
 from typing import Dict, List, Optional, Tuple
 
 from .clock import Clock
@@ -8,7 +7,7 @@ from .engine import Cue
 from .keys import HELP, Operator
 from .player import Player
 from .stage import SHADES, Piece, Row, Stage, bar
-from .words import clock_text, cut, percent, seconds
+from .words import clock_text, cut, percent, seconds, tail, wrapped
 
 # Colours of 256 from dark to bright; text on the darkest two is white.
 INKS, WHITE, BLACK = (58, 94, 136, 178, 214, 220, 221), 231, 16
@@ -75,7 +74,7 @@ def said_rows(player: Player, most: int, columns: int) -> List[Row]:
     """What was said: the last line whole, as far as there is room for it, and lines before it."""
     out: List[str] = []
     for text in reversed(player.log):
-        lines = textwrap.wrap(text[:most * columns], max(10, columns - 3)) or [""]
+        lines = wrapped(text[:most * columns], max(10, columns - 3)) or [""]
         if len(out) + len(lines) > (SAID if out else most):
             break
         out[:0] = lines
@@ -151,11 +150,11 @@ class Screen:
     def _draw_bottom(self, y: int, columns: int) -> None:
         """The keys, or the line that is being typed with the cursor behind it."""
         prompt = self._operator.prompt
-        text = f" {prompt.label}{prompt.typed}" if prompt else f" {HELP}"
-        self._put(y, 0, [Piece(text[-(columns - 2):] if prompt else text, "head" if prompt else "dim")], columns)
+        text, wide = tail(f" {prompt.label}{prompt.typed}", max(0, columns - 2)) if prompt else (f" {HELP}", 0)
+        self._put(y, 0, [Piece(text, "head" if prompt else "dim")], columns)
         self._show_cursor(bool(prompt))
         if prompt:
-            self._window.move(y, min(len(text), columns - 2))
+            self._window.move(y, wide)
 
     def _put(self, y: int, left: int, row: Row, right: int) -> None:
         """One row from a column on; what reaches past the right edge is cut off, and the rest up to there is cleared."""

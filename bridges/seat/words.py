@@ -1,6 +1,7 @@
 """How levels, moments and refusals are said, as the views of this repository say them."""
 import os
 import sys
+import textwrap
 import unicodedata
 from typing import List, Tuple
 
@@ -9,7 +10,7 @@ sys.path.append(os.path.join(TOP, "view"))
 
 from shows import MEANINGS, SEPARATORS, percent  # noqa: E402
 
-__all__ = ["TOP", "clean", "clock_text", "cut", "percent", "seconds", "tokens", "why"]
+__all__ = ["TOP", "clean", "clock_text", "cut", "percent", "seconds", "tail", "tokens", "why", "wrapped"]
 
 
 def tokens(line: str) -> List[str]:
@@ -53,3 +54,20 @@ def cut(text: str, columns: int) -> Tuple[str, int]:
             return text[:place], wide
         wide += step
     return text, wide
+
+
+def tail(text: str, columns: int) -> Tuple[str, int]:
+    """The same from the end of the text."""
+    end, wide = cut(text[::-1], columns)
+    return end[::-1], wide
+
+
+def wrapped(text: str, columns: int) -> List[str]:
+    """The text in lines that have room: between words, or where letters take two columns or none, wherever a line is full."""
+    if cut(text, len(text)) == (text, len(text)):
+        return textwrap.wrap(text, columns)
+    lines = []
+    while text:
+        lines.append(cut(text, columns)[0])
+        text = text[len(lines[-1]):]
+    return lines

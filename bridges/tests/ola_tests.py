@@ -354,7 +354,7 @@ def what_keeps_the_bridge_from_beginning(_program: str) -> List[str]:
     wrong = []
     with rig.written("universe-2.txt", "frame 0 0 2\n") as path:
         folder = os.path.dirname(path)
-        for line, part in (("2", "no named pipe"), ("1 --folder /nowhere", "No such file"), ("0", "from 1 to 32"), ("33", "from 1 to 32"), ("x", "invalid int")):
+        for line, part in (("2", "no named pipe"), ("1 --folder /nowhere", "No such file"), ("0", "from 1 to 32"), ("33", "from 1 to 32"), ("x", "invalid int"), ("1 --port 0", "from 1 to 65535"), ("1 --port 65536", "from 1 to 65535")):
             words = [rig.PYTHON, os.path.join(rig.BRIDGES, "ola.py"), *line.split()]
             run = subprocess.run(words, cwd=folder, capture_output=True, text=True, timeout=rig.SECONDS)
             if run.returncode != 2 or part not in run.stderr.splitlines()[-1] or "Traceback" in run.stderr:
@@ -376,9 +376,9 @@ def two_bridges_in_one_folder(_program: str) -> List[str]:
 
 
 def ended_by_a_signal(_program: str) -> List[str]:
-    """Ctrl-C and SIGTERM end it without a word, and its pipes are gone."""
+    """Ctrl-C, SIGTERM and a terminal that is closed end it without a word, and its pipes are gone."""
     wrong = []
-    for how, status in ((signal.SIGINT, 130), (signal.SIGTERM, 143)):
+    for how, status in ((signal.SIGINT, 130), (signal.SIGTERM, 143), (signal.SIGHUP, 129)):
         with tempfile.TemporaryDirectory() as folder:
             bridge = rig.Bridge(folder, 2)
             time.sleep(0.3)
@@ -386,6 +386,72 @@ def ended_by_a_signal(_program: str) -> List[str]:
             ended = bridge.end()
             if ended != (status, []) or os.listdir(folder):
                 wrong.append(f"{how.name}: {ended}, left {os.listdir(folder)}")
+    return wrong
+
+
+def started_by_nohup(_program: str) -> List[str]:
+    """A bridge that is to outlive its terminal does."""
+    with tempfile.TemporaryDirectory() as folder:
+        is_ended = signal.signal(signal.SIGHUP, signal.SIG_IGN)
+        try:
+            bridge = rig.Bridge(folder, 1)
+        finally:
+            signal.signal(signal.SIGHUP, is_ended)
+        time.sleep(0.3)
+        bridge.process.send_signal(signal.SIGHUP)
+        time.sleep(0.3)
+        wrong = [] if bridge.process.poll() is None else ["it ended"]
+        bridge.process.terminate()
+        ended = bridge.end()
+        return wrong + ([] if wrong or ended == (143, []) else [str(ended)])
+
+
+def pipes_that_are_removed_meanwhile(_program: str) -> List[str]:
+    """A pipe that is gone at the end, and one whose place a file has taken: the file stays, and the other pipes are removed."""
+    with tempfile.TemporaryDirectory() as folder:
+        bridge = rig.Bridge(folder, 3)
+        time.sleep(0.3)
+        for universe in (1, 2):
+            os.unlink(os.path.join(folder, f"universe-{universe}.txt"))
+        with open(os.path.join(folder, "universe-2.txt"), "w") as file:
+            file.write("kept\n")
+        bridge.process.terminate()
+        ended, left = bridge.end(), os.listdir(folder)
+        return [] if (ended, left) == ((143, []), ["universe-2.txt"]) else [f"{ended}, left {left}"]
+
+
+def nobody_reads_what_it_says(_program: str) -> List[str]:
+    """Where standard error is closed at its other end, the frames go on."""
+    with tempfile.TemporaryDirectory() as folder:
+        bridge = rig.Bridge(folder, 1)
+        assert bridge.process.stdout and bridge.process.stderr
+        bridge.process.stderr.close()
+        with open(os.path.join(folder, "universe-1.txt"), "wb", 0) as pipe:
+            pipe.write(full_line(1, 1) + b"\n")
+            time.sleep(0.5)
+            with rig.Olad(PORTS):
+                pipe.write(full_line(2, 1) + b"\n")
+                pipe.close()
+                status = bridge.process.wait(rig.SECONDS)
+                wrong = [] if status == 0 and holds(1, full_line(2, 1)) else [f"status {status}"]
+        bridge.process.stdout.close()
+        return wrong
+
+
+def another_server_on_the_port(_program: str) -> List[str]:
+    """What answers there isn't olad: its bytes are no message of olad, or none that can be read. That is said, and nothing breaks."""
+    wrong = []
+    for answer in (b"HTTP/1.1 400 Bad Request\r\n\r\n", b"\7\0\0\x10" + b"\xff" * 7):
+        with tempfile.TemporaryDirectory() as folder, rig.socket.create_server(("127.0.0.1", rig.PORT)) as server:
+            bridge = rig.Bridge(folder, 1, "--seconds", "0.5")
+            with open(os.path.join(folder, "universe-1.txt"), "wb", 0) as pipe:
+                pipe.write(full_line(1, 1) + b"\n")
+                with server.accept()[0] as connection:
+                    connection.sendall(answer)
+                    time.sleep(0.3)
+            status, said = bridge.end()
+            if status != 1 or not any("its last frame isn't delivered" in line for line in said) or any("Traceback" in line for line in said):
+                wrong.append(f"{answer!r}: status {status}, said {said}")
     return wrong
 
 
@@ -402,4 +468,5 @@ def an_outlet_that_never_begins(_program: str) -> List[str]:
 TESTS: List[Callable[[str], List[str]]] = [
     live_run, first_show_of_the_readme, olad_killed_midway, last_frame_of_many_short_runs, a_resting_universe_comes_back_with_olad, no_olad, olad_comes_after_the_desk_has_ended,
     a_universe_without_a_port, a_port_is_patched_meanwhile, a_slow_olad_gets_the_newest, lines_that_are_no_frames, the_longest_and_the_shortest_line,
-    pipes_are_left_as_they_were, what_keeps_the_bridge_from_beginning, two_bridges_in_one_folder, ended_by_a_signal, an_outlet_that_never_begins]
+    pipes_are_left_as_they_were, what_keeps_the_bridge_from_beginning, two_bridges_in_one_folder, ended_by_a_signal, started_by_nohup, pipes_that_are_removed_meanwhile,
+    nobody_reads_what_it_says, another_server_on_the_port, an_outlet_that_never_begins]

@@ -1,5 +1,6 @@
 """Tests of desk.py, the operator's seat. Each function is a test, and answers what went wrong, a line each."""
 import os
+import pty
 import random
 import re
 import shutil
@@ -12,7 +13,7 @@ from typing import Callable, Dict, List, Tuple
 
 import ola_tests
 import rig
-from seating import FADES, KEY, OSC, BareSeat, Seat, bars_at, desk_at, plain_desk, read_bytes, stop_for, takes_turns_again, takes_turns_first, wrong_screen
+from seating import DESK, FADES, KEY, OSC, BareSeat, Seat, bars_at, desk_at, plain_desk, read_bytes, stop_for, takes_turns_again, takes_turns_first, wrong_screen
 
 WITHIN = 0.060
 SHARE = 0.10
@@ -114,6 +115,13 @@ def saved_and_left(_program: str) -> List[str]:
             seat.until("save into:$")
             seat.type(os.path.join(folder, "nowhere", "saved.asc"))
             seat.until("saved.asc can't be written: No such file or directory")
+            os.mkfifo(os.path.join(folder, "pipe"))
+            seat.line("save")
+            seat.type(os.path.join(folder, "pipe"))
+            seat.until("is there already: replace it")
+            seat.keys("y")
+            seat.until("pipe can't be written: it is no plain file")
+            os.unlink(os.path.join(folder, "pipe"))
             seat.line("save")
             seat.type(path)
             seat.until("save: .*saved.asc has the show")
@@ -131,6 +139,32 @@ def saved_and_left(_program: str) -> List[str]:
             wrong += [] if "status 0" in screen and not any("weren't saved" in line for line in screen) else [f"at the end {screen}"]
         wrong += [] if os.listdir(folder) == ["saved.asc"] else [f"left {os.listdir(folder)}"]
     return wrong
+
+
+# Saves two texts into one file, of which the first takes long to be whole on the disk: what the file has at the end, and what is said.
+TWO_SAVES = """
+import sys, time
+sys.path.append(%r)
+from seat import saving
+slow = iter([0.5])
+saving.os.fsync = lambda _: time.sleep(next(slow, 0))
+class Player:
+    saved = say = staticmethod(lambda text: print(text))
+saver = saving.Saver(Player)
+saver.begin(sys.argv[1], b"first")
+saver.begin(sys.argv[1], b"second")
+saver.finish()
+print(open(sys.argv[1], "rb").read())
+"""
+
+
+def the_last_save_stays(_program: str) -> List[str]:
+    """Of two saves into one file the later one stays, however long the first one took."""
+    with tempfile.TemporaryDirectory() as folder:
+        path = os.path.join(folder, "saved.asc")
+        said = subprocess.run([rig.PYTHON, "-c", TWO_SAVES % rig.BRIDGES, path], stdout=subprocess.PIPE, text=True, check=True, timeout=rig.SECONDS).stdout.splitlines()
+        wanted = ["b'first'", f"save: {path} has the show, 5 bytes", "b'second'", f"save: {path} has the show, 6 bytes", "b'second'"]
+        return [] if said == wanted else [f"{said}, and not {wanted}"]
 
 
 def levels_as_looks(_program: str) -> List[str]:
@@ -166,17 +200,77 @@ def the_terminal_is_as_it_was(_program: str) -> List[str]:
     return wrong
 
 
+def its_terminal_is_closed(_program: str) -> List[str]:
+    """The status tells of it, though nobody is left to read that edits are lost."""
+    terminal, inside = pty.openpty()
+    process = subprocess.Popen(["setsid", "--ctty", rig.PYTHON, DESK, FADES], stdin=inside, stdout=inside, stderr=inside,
+                               env={**os.environ, "TERM": "xterm-256color", "LANG": "C.UTF-8"})
+    os.close(inside)
+    drawn = b""
+    while b"last tick" not in drawn:
+        drawn += os.read(terminal, 65_536)
+    os.write(terminal, b":label 1 x\n")
+    time.sleep(0.5)
+    os.close(terminal)
+    status = process.wait(rig.SECONDS)
+    return [] if status == 129 else [f"status {status}"]
+
+
+def a_terminal_that_is_not_known(_program: str) -> List[str]:
+    """A terminal of which this machine has no description: one line says so, and the status is 2."""
+    wrong = []
+    for name in ("no-such-terminal", ""):
+        terminal, inside = pty.openpty()
+        run = subprocess.run(["setsid", "--ctty", rig.PYTHON, DESK, FADES], stdin=inside, stdout=inside, stderr=subprocess.PIPE, text=True,
+                             env={**os.environ, "TERM": name}, timeout=rig.SECONDS)
+        os.close(inside)
+        os.close(terminal)
+        if run.returncode != 2 or run.stderr.count("\n") != 1 or "TERM" not in run.stderr:
+            wrong.append(f"{name!r}: status {run.returncode}, {run.stderr!r}")
+    return wrong
+
+
 def what_keeps_the_seat_from_beginning(_program: str) -> List[str]:
     """A show that is refused, a file that isn't there, a port that is taken, words that name nothing: one line each, and status 2."""
     wrong = []
     with rig.written("bad.asc", "IDENT 3:0\nCUE 1\nUP x\nENDDATA\n") as bad:
         for words, part in (([bad], "show BadNumber 3"), (["/nowhere.asc"], "No such file"), ([FADES, "--osc", "192.0.2.77:7770"], "Cannot assign"),
-                            ([FADES, "--osc", "x"], "no port"), ([FADES, "--universes", "33"], "from 1 to 32"), ([], "required")):
+                            ([FADES, "--osc", "x"], "no port"), ([FADES, "--universes", "33"], "from 1 to 32"), ([FADES, "--ola", "--ola-port", "65536"], "from 1 to 65535"), ([], "required")):
             with BareSeat(*words) as seat:
                 seat.process.wait(rig.SECONDS)
                 status, said = seat.end(signal.SIGCONT)
                 if status != 2 or part not in said[-1] or "Traceback" in "".join(said):
                     wrong.append(f"{words}: status {status}, {said}")
+    return wrong
+
+
+def wide_letters(_program: str) -> List[str]:
+    """What is being typed is seen to its end, with the cursor behind it, also where letters take two columns."""
+    with Seat(FADES, columns=60) as seat:
+        seat.keys(":")
+        seat.tmux("send-keys", "-t", "a", "-l", "label 1 " + "舞台" * 20 + "z")
+        seat.until("舞台z$")
+        line, cursor = seat.screen()[-1], seat.tmux("display-message", "-p", "-t", "a", "#{cursor_x}").strip()
+        columns = sum(1 if letter.isascii() else 2 for letter in line.rstrip())
+        seat.keys("Enter")
+        seat.until("[台z]: ok$")
+        return [] if int(cursor) == columns else [f"the cursor is at {cursor} behind {columns} columns"]
+
+
+def a_terminal_of_any_size(_program: str) -> List[str]:
+    """The seat goes on where its terminal becomes as small as it can be, also while a line is being typed."""
+    wrong = []
+    with BareSeat(FADES) as seat:
+        for rows, columns in ((1, 1), (40, 1), (1, 80), (2, 2), (40, 120)):
+            seat.press(b":abc")
+            seat.resize(rows, columns)
+            time.sleep(0.2)
+            seat.press(b"\x1b")
+            time.sleep(0.1)
+            if seat.process.poll() is not None:
+                return [f"it ended at {rows} rows of {columns}"]
+        status, said = seat.end()
+        wrong += [] if (status, said) == (0, []) else [f"status {status}, said {said}"]
     return wrong
 
 
@@ -252,7 +346,8 @@ MESSAGES: List[Tuple[List[str], str]] = [
     (["/cuedesk/line", "s", "label 1 By OSC"], "label 1 By OSC"),
     (["/cuedesk/master", "f", "1.01"], ""), (["/cuedesk/master", "i", "101"], ""), (["/cuedesk/master", "f", "nan"], ""), (["/cuedesk/master"], ""), (["/cuedesk/master", "s", "50 x"], ""),
     (["/cuedesk/master", "T"], ""), (["/cuedesk/fader", "i", "1"], ""), (["/cuedesk/fader", "ff", "1.5", "0.5"], ""), (["/cuedesk/go", "f", "1.0"], ""), (["/cuedesk/goto", "f", "inf"], ""),
-    (["/cuedesk/goto", "s", "1 2"], ""), (["/cuedesk/line", "i", "5"], ""), (["/cuedesk/line", "s", "save"], ""), (["/cuedesk/line", "s", "QUIT"], ""), (["/cuedesk/line", "s", "go\ngo"], ""),
+    (["/cuedesk/goto", "s", "1 2"], ""), (["/cuedesk/goto", "s", "1\n2"], ""), (["/cuedesk/goto", "s", "1\r"], ""), (["/cuedesk/master", "s", "5\n6"], ""),
+    (["/cuedesk/fader", "is", "1", "5\r6"], ""), (["/cuedesk/line", "i", "5"], ""), (["/cuedesk/line", "s", "save"], ""), (["/cuedesk/line", "s", "QUIT"], ""), (["/cuedesk/line", "s", "go\ngo"], ""),
     (["/cuedesk/subscribe", "s", "x"], ""), (["/cuedesk"], ""), (["/"], ""), (["/cuedesk/go/"], ""), (["/CUEDESK/GO"], ""), (["/other", "iiii", "1", "2", "3", "4"], ""),
     (["/cuedesk/goto", "i", "1"], "goto 1"), (["/cuedesk/goto", "s", "1.0"], "goto 1.0"), (["/cuedesk/goto", "d", "1.0"], "goto 1")]
 
@@ -277,6 +372,26 @@ def messages(_program: str) -> List[str]:
             if not line and (seat.shown().slots, seat.shown().running) != (before.slots, before.running):
                 wrong.append(f"{words} changed something")
         seat.keys("q", "y")
+        seat.left()
+    return wrong
+
+
+def bundles(_program: str) -> List[str]:
+    """Messages of a bundle are done in their order, at its time, and none of this is refused; a bundle of nothing is."""
+    import liblo
+    target, wrong = ("127.0.0.1", OSC), []
+    with Seat(FADES, "--osc", str(OSC)) as seat:
+        liblo.send(target, liblo.Bundle(liblo.Message("/cuedesk/go"), liblo.Message("/cuedesk/settle")))
+        seat.until("settle: ok")
+        liblo.send(target, liblo.Bundle(liblo.time() + 0.6, liblo.Message("/cuedesk/goto", "3"), liblo.Message("/cuedesk/settle")))
+        time.sleep(0.2)
+        early = [line for line in seat.screen() if "goto" in line.split("space go")[0] or "refused" in line]
+        seat.until("goto 3: ok")
+        seat.until("settle: ok")
+        wrong += [f"before its time: {early}"] * bool(early) + [line for line in seat.screen() if "refused" in line]
+        liblo.send(target, liblo.Bundle())
+        seat.until("osc: refused: a packet that is no message")
+        seat.keys("q")
         seat.left()
     return wrong
 
@@ -442,6 +557,19 @@ def the_rig_holds_the_last_frame(_program: str) -> List[str]:
     return wrong
 
 
+def another_server_on_the_port(_program: str) -> List[str]:
+    """What answers there isn't olad: nothing of that is written across the screen, and at the end it is said."""
+    with rig.socket.create_server(("127.0.0.1", rig.PORT)) as server, BareSeat(FADES, "--ola") as seat:
+        with server.accept()[0] as connection:
+            connection.sendall(b"HTTP/1.1 400 Bad Request\r\n\r\n")
+            time.sleep(0.5)
+            status, said = seat.end()
+        return [] if (status, said) == (1, ["desk.py: universe 1: its last frame isn't delivered: olad didn't answer"]) else [f"status {status}, said {said}"]
+
+
 TESTS: List[Callable[[str], List[str]]] = [
-    fades_played_by_keys, every_key, faders_by_arrows, saved_and_left, levels_as_looks, the_terminal_is_as_it_was, what_keeps_the_seat_from_beginning, a_cue_by_osc, messages,
-    osc_is_of_this_machine_alone, packets_that_are_no_messages, a_key_acts_within_60_ms, processor_time_of_a_fade, ticks_do_not_drift, the_rig_holds_the_last_frame]
+    fades_played_by_keys, every_key, faders_by_arrows, saved_and_left, the_last_save_stays, levels_as_looks, the_terminal_is_as_it_was, its_terminal_is_closed, a_terminal_that_is_not_known, wide_letters,
+    what_keeps_the_seat_from_beginning, a_terminal_of_any_size,
+    a_cue_by_osc, messages, bundles,
+    osc_is_of_this_machine_alone, packets_that_are_no_messages, a_key_acts_within_60_ms, processor_time_of_a_fade, ticks_do_not_drift, the_rig_holds_the_last_frame,
+    another_server_on_the_port]

@@ -150,7 +150,7 @@ class BareSeat:
 
     def __init__(self, *words: str, columns: int = 120, rows: int = 40) -> None:
         self._terminal, inside = pty.openpty()
-        fcntl.ioctl(inside, termios.TIOCSWINSZ, struct.pack("HHHH", rows, columns, 0, 0))
+        self.resize(rows, columns)
         self.errors = tempfile.TemporaryFile("w+")
         self.process = subprocess.Popen(["setsid", "--ctty", rig.PYTHON, DESK, *words], stdin=inside, stdout=inside, stderr=self.errors,
                                         env={**os.environ, "TERM": "xterm-256color", "LANG": "C.UTF-8"})
@@ -172,6 +172,10 @@ class BareSeat:
         """Presses keys, and answers when."""
         os.write(self._terminal, keys)
         return time.monotonic()
+
+    def resize(self, rows: int, columns: int) -> None:
+        """Gives the terminal another size."""
+        fcntl.ioctl(self._terminal, termios.TIOCSWINSZ, struct.pack("HHHH", rows, columns, 0, 0))
 
     def end(self, how: Optional[int] = None) -> Tuple[int, List[str]]:
         """Leaves by q, or by a signal: the status, and what was said on standard error."""

@@ -47,11 +47,19 @@ def listens(port: int) -> bool:
 
 
 def main() -> int:
+    """The exit status: 1 where the file can't be read, the show is refused, or olad lacks a last frame."""
     parser = argparse.ArgumentParser()
     parser.add_argument("file")
     parser.add_argument("--universes", type=int, default=1)
     parser.add_argument("--port", type=int, default=9010)
     given = parser.parse_args()
+    if not 1 <= given.universes <= cuedesk.UNIVERSES:
+        parser.error(f"N is from 1 to {cuedesk.UNIVERSES}")
+    try:
+        with open(given.file, "rb") as file:
+            text = file.read()
+    except OSError as fault:
+        sys.exit(f"{given.file}: {fault.strerror}")
     try:
         from handover import HandOver
     except ImportError:
@@ -61,8 +69,11 @@ def main() -> int:
         print(f"to_olad: left out, since no olad listens on port {given.port}")
         return 0
     handover = HandOver(say=print, port=given.port)
-    with open(given.file, "rb") as file, cuedesk.Desk(file.read()) as desk:
-        play(desk, handover, given.universes)
+    try:
+        with cuedesk.Desk(text) as desk:
+            play(desk, handover, given.universes)
+    except cuedesk.ShowRefused as fault:
+        sys.exit(str(fault))
     late = handover.finish(5)
     return 1 if late else 0
 

@@ -11,7 +11,8 @@
 
 A desk is opened over a show's text, and does the lines of a script (docs/FORMATS.md): keys, faders, edits, ticks, and lines that show
 something. It is libcuedesk, by ctypes; nothing here is compiled. The library is looked for at the path in the environment variable
-CUEDESK_LIBRARY, then beside this file and in the folder above it, then where the system keeps libraries.
+CUEDESK_LIBRARY, then beside this file and in the folder above it, then where the system keeps libraries. In a checkout of the repository
+it is the one that `make -C host` built, or else the released one.
 
 A desk belongs to one thread at a time; several desks in several threads share nothing. While a call is in the library, other threads run.
 """
@@ -24,7 +25,7 @@ from types import TracebackType
 from typing import Any, Callable, Dict, List, NamedTuple, Optional, Type, Union
 
 __all__ = ["BadLine", "Cue", "Desk", "Refused", "ShowRefused", "State", "SLOTS", "TICK", "UNIVERSES", "__version__"]
-__version__ = "1.0.5"
+__version__ = "1.0.7"
 
 #: Universes, the slots of each, and how many hundredths of a second a tick is.
 UNIVERSES = 32
@@ -34,8 +35,9 @@ TICK = 2
 #: A cue number: `"1.5"` as in a script, or the number.
 CueNumber = Union[str, int, float, Decimal]
 
-# The version of the header that this was written from.
+# The version of the header that this was written from, and the library's file.
 _VERSION = 1
+_NAME = "libcuedesk.so.1"
 _ROOM = ctypes.c_size_t(1 << 16)
 _SLOTS = ctypes.c_size_t(SLOTS)
 _CUE_MAX = 9_999_999
@@ -138,13 +140,20 @@ class _Playback(ctypes.Structure):
     _fields_ += [("master", ctypes.c_uint8), ("follows", ctypes.c_bool)]
 
 
+def _places() -> List[str]:
+    """Where the library may stand near this file. A checkout is known by the header beside this file's folder."""
+    here = os.path.dirname(os.path.abspath(__file__))
+    above = os.path.dirname(here)
+    folders = [here, above]
+    if os.path.exists(os.path.join(above, "cuedesk.h")):
+        folders += [os.path.join(above, "build"), os.path.join(os.path.dirname(above), "release", "lib")]
+    return [os.path.join(folder, _NAME) for folder in folders]
+
+
 def _loaded() -> ctypes.CDLL:
     """The library, with the types of its calls' answers. Those of arguments aren't told, since looking at them takes longer than a call: a
     size is passed as a c_size_t, anything else by its address or as an int of 32 bits."""
-    here = os.path.dirname(os.path.abspath(__file__))
-    places = [os.path.join(here, "libcuedesk.so.1"), os.path.join(os.path.dirname(here), "libcuedesk.so.1")]
-    given = os.environ.get("CUEDESK_LIBRARY")
-    library = ctypes.CDLL(given or next(filter(os.path.exists, places), "libcuedesk.so.1"))
+    library = ctypes.CDLL(os.environ.get("CUEDESK_LIBRARY") or next(filter(os.path.exists, _places()), _NAME))
     for name in ("version", "open", "open_undo", "close", "command", "reply", "tick", "frame", "changed", "level", "tracked", "fader", "state"):
         getattr(library, f"cuedesk_{name}").restype = None if name == "close" else ctypes.c_uint32
     if library.cuedesk_version() != _VERSION:
@@ -169,10 +178,13 @@ def _cue_text(thousandths: int) -> str:
 
 
 def _thousandths(cue: CueNumber) -> int:
-    number = Decimal(str(cue)) * 1000
-    if number != int(number) or not 0 <= number <= _CUE_MAX:
-        raise ValueError(f"{cue}: no cue number")
-    return int(number)
+    try:
+        number = Decimal(str(cue)) * 1000
+        if number == int(number) and 0 <= number <= _CUE_MAX:
+            return int(number)
+    except (ArithmeticError, ValueError):
+        pass
+    raise ValueError(f"{cue}: no cue number")
 
 
 def _number(given: int) -> int:

@@ -88,7 +88,7 @@ fn main(rt: HostRuntime) -> ExitCode {
     let mut words_heap = WordsHeap::new(alloc);
     let status = match words_of_in(&mut words_heap, &words) {
         Ok(Job::Crew(..)) => {
-            let mut operators = scripts(&rt, alloc);
+            let mut operators = scripts(&rt);
             desk_crew_in(
                 &rt,
                 &mut heap,

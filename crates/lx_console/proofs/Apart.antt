@@ -8,7 +8,7 @@ use Rattle.lx_console.proofs.Imports.{IsApart, IsUnseen, IsFrom, decided_at}
 use Rattle.lx_spec.proofs.Comparisons.{lt_from}
 use Rattle.lx_spec.proofs.Lists.{found_has, passes}
 use Rattle.lx_edit.proofs.ChangedColumns.{alike_past}
-use Rattle.lx_edit.proofs.Walks.{tracked_below-with_cue}
+use Rattle.lx_edit.proofs.Walks.{tracked_below}
 use Rattle.lx_levels.specs.Acts.{act_over}
 
 -- a run of no use
@@ -25,11 +25,10 @@ same_cue show cue n c m number apart =
       differs (inr past) same = omega (arith, past.0, same)
 
 -- and its channel the same level
-same_level : (show : Show) (cue : Cue) (n c m : ℕ) → Valid show → cue.number ≡ n → 1 ≤ n → IsApart (with_cue show cue) n c m
+same_level : (show : Show) (cue : Cue) (n c m : ℕ) → Valid show → cue.number ≡ n → IsApart (with_cue show cue) n c m
     → tracked show m c ≡ tracked (with_cue show cue) m c
-same_level show cue n c m valid number least (inl less) =
-    sym (tracked_below-with_cue show cue m c (subst (λ k. m < k) (sym number) less))
-same_level show cue n c m valid number least (inr past) = alike_past show cue n m c valid number least past.1
+same_level show cue n c m valid number (inl less) = sym (tracked_below show n m c (Some cue) number less)
+same_level show cue n c m valid number (inr past) = alike_past show cue n m c valid number past.1
 
 -- the level over one more run, by what it takes from the show: whether its cue is asserted, the move and the tracked levels
 abbrev over_one : Run → ℕ → ℕ → (ℕ → ℕ) → Bool → Option Move → ℕ → ℕ → ℕ
@@ -43,21 +42,20 @@ over_one run m c before asserted move at target =
     else before m
 
 -- so the levels over runs that go to such numbers are the same
-level_apart : (show : Show) (cue : Cue) (n c base : ℕ) (runs : List Run) (m : ℕ) → Valid show → cue.number ≡ n → 1 ≤ n
-    → IsApart (with_cue show cue) n c base → All (λ run. IsApart (with_cue show cue) n c run.cue) runs
-    → (level show base runs c m ≡ level (with_cue show cue) base runs c m) × IsApart (with_cue show cue) n c (last_cue base runs)
-level_apart show cue n c base [] m valid number least apart all = (same_level show cue n c base valid number least apart, apart)
-level_apart show cue n c base (run ∷ older) m valid number least apart all =
-    let here : IsApart (with_cue show cue) n c run.cue = all 0 no_run (omega arith) in
-    let rest : All (λ (r : Run). IsApart (with_cue show cue) n c r.cue) older = λ k d within. all (suc k) d (omega (arith, within)) in
-    let before = (level_apart show cue n c base older m valid number least apart rest).1 in
-    let there = same_cue show cue n c run.cue number here in (
-      λ i. over_one run m c (λ z. (level_apart show cue n c base older z valid number least apart rest).0 i)
-          (option_map_or (λ x. x.asserted) (there i) false) (option_and_then (λ x. move_in x c) (there i))
-          (same_level show cue n c (last_cue base older) valid number least before i)
-          (same_level show cue n c run.cue valid number least here i),
-      here,
-    )
+module _ (show : Show) (cue : Cue) (n c base : ℕ) (valid : Valid show) (number : cue.number ≡ n) (apart : IsApart (with_cue show cue) n c base) where
+  level_apart : (runs : List Run) (m : ℕ) → All (λ run. IsApart (with_cue show cue) n c run.cue) runs
+      → (level show base runs c m ≡ level (with_cue show cue) base runs c m) × IsApart (with_cue show cue) n c (last_cue base runs)
+  level_apart [] m all = (same_level show cue n c base valid number apart, apart)
+  level_apart (run ∷ older) m all =
+      let here : IsApart (with_cue show cue) n c run.cue = all 0 no_run (omega arith) in
+      let rest : All (λ (r : Run). IsApart (with_cue show cue) n c r.cue) older = λ k d within. all (suc k) d (omega (arith, within)) in
+      let there = same_cue show cue n c run.cue number here in (
+        λ i. over_one run m c (λ z. (level_apart older z rest).0 i) (option_map_or (λ x. x.asserted) (there i) false)
+            (option_and_then (λ x. move_in x c) (there i))
+            (same_level show cue n c (last_cue base older) valid number (level_apart older m rest).1 i)
+            (same_level show cue n c run.cue valid number here i),
+        here,
+      )
 
 -- what is found among the first is found among all
 found_step : {A : Type 0} (b : Bool) (y x : A) (first rest : Option A) → (first ≡ Some x → rest ≡ Some x)
@@ -111,7 +109,7 @@ placed_stands show after p plan (Some n) k levels valid stands within ready is p
     let seen = subst (λ (s : Show). IsUnseen s p n (k + 1)) after_is unseen in
     record {
       later = λ x from. old.later x from
-          ∙ (level_apart show placed.cue n (k + 1) p.base p.live x valid placed.number placed.least seen.base seen.runs).0
+          ∙ (level_apart show placed.cue n (k + 1) p.base valid placed.number seen.base p.live x seen.runs).0
           ∙ sym (ap (λ (s : Show). level s p.base p.live (k + 1) x) after_is);
       few = old.few;
     }

@@ -35,22 +35,17 @@ same_patch show (plans.Cue n to (Some above) keeps) clean = refl
 same_patch show (plans.Row e to) clean = cc
 same_patch show plan clean = refl
 
--- submasters that are the same give the same
-pub contributions_by : (one other : Show) (faders contributions : List ℕ) → other.subs ≡ one.subs → other.channels ≡ one.channels
-    → IsTable one.channels (contribution one faders) contributions → IsTable other.channels (contribution other faders) contributions
-contributions_by one other faders contributions subs channels table = record {
-  reach = table.reach ∙ sym channels;
-  each = λ k within. table.each k (omega (arith, channels))
-      ∙ ap (λ (s : List Sub). contribution (record one { subs = s }) faders (k + 1)) (sym subs);
-}
-
 -- a rack that stood for the show does so still, where the plan changed no submaster
 pub same_contributions : (show after : Show) (plan : Plan) (stale : Bool) (faders contributions : List ℕ) → after ≡ planned show plan
     → stale ≡ plans_sub plan → IsTable show.channels (contribution show faders) contributions → stale ≡ false
     → IsTable after.channels (contribution after faders) contributions
 same_contributions show after plan stale faders contributions is subs table clean =
-    contributions_by show after faders contributions (ap (λ (s : Show). s.subs) is ∙ same_subs show plan (sym subs ∙ clean))
-    (ap (λ (s : Show). s.channels) is ∙ same_channels show plan) table
+    let channels : after.channels ≡ show.channels = ap (λ (s : Show). s.channels) is ∙ same_channels show plan in
+    let same : after.subs ≡ show.subs = ap (λ (s : Show). s.subs) is ∙ same_subs show plan (sym subs ∙ clean) in record {
+      reach = table.reach ∙ sym channels;
+      each = λ k within. table.each k (omega (arith, channels))
+          ∙ ap (λ (s : List Sub). contribution (record show { subs = s }) faders (k + 1)) (sym same);
+    }
 
 -- and has the places of the channels
 pub same_reach : (show after : Show) (plan : Plan) (faders contributions : List ℕ) → after ≡ planned show plan

@@ -13,31 +13,31 @@ pub use Rattle.lx_console.specs.UnseenEdits.{decided_at, IsApart, IsFrom, IsUnse
 pub use Rattle.lx_console.specs.declared.change.Change.{Change}
 pub use Rattle.lx_edit.specs.ChanSet.{has_chan}
 pub use Rattle.lx_edit.specs.CueChanges.{IsPast, KeepsOthers}
-pub use Rattle.lx_edit.specs.PlanMeaning.{dimmer_planned, IsReady, IsRefusal, planned, plans_sub, with_move}
+pub use Rattle.lx_edit.specs.PlanMeaning.{dimmer_planned, IsReady, IsRefusal, planned, plans_sub}
 pub use Rattle.lx_edit.specs.declared.plans.Plan.{Plan}
 pub use Rattle.lx_levels.proofs.Stands.{kept_level, stands_over}
 pub use Rattle.lx_levels.specs.LevelsMeaning.{LevelsStandFor, StackStandsAt, StandsBefore}
 pub use Rattle.lx_levels.specs.Stacks.{KeptLevels, level_at}
 pub use Rattle.lx_mixer.specs.Table.{IsTable}
 pub use Rattle.lx_patch.proofs.Frames.{patched, reaches}
-pub use Rattle.lx_patch.proofs.Rows.{gone, others_stay, stands_alike}
+pub use Rattle.lx_patch.proofs.Rows.{others_stay, stands_alike}
 pub use Rattle.lx_patch.specs.DimmerTable.{DimmerTable, StandsForPatch}
 pub use Rattle.lx_playback.specs.QuietTicks.{moments_later, TicksPass}
 pub use Rattle.lx_playback.specs.Told.{comes_to_rest, run_made}
 pub use Rattle.lx_spec.proofs.RestKept.{kept-opened, kept-replay, kept-step}
-pub use Rattle.lx_spec.proofs.SortedLists.{entry_at-placed_here, entry_at-placed_other, found_number}
+pub use Rattle.lx_spec.proofs.SortedLists.{entry_at-placed_other}
 pub use Rattle.lx_spec.specs.Desk.{after_command, after_play, Desk, opened, replay, step}
-pub use Rattle.lx_spec.specs.EditedShow.{edited, the_cue, with_cue}
+pub use Rattle.lx_spec.specs.EditedShow.{edited, with_cue}
 pub use Rattle.lx_spec.specs.FirstRefusal.{◌>>=◌}
 pub use Rattle.lx_spec.specs.Kept.{Kept, kept}
 pub use Rattle.lx_spec.specs.Laws.{KeepsRest}
 pub use Rattle.lx_spec.specs.Level.{last_cue, level}
 pub use Rattle.lx_spec.specs.Output.{contribution, dimmer_value, frame, out}
 pub use Rattle.lx_spec.specs.Playback.{appended, at_rest, follow_of, followed, has_room, if_room, is_due, is_over, no_run, Playback, Played, position_of, press}
-pub use Rattle.lx_spec.specs.Playback.{rested, run_of, run_whole, start_above, tick, ticked}
+pub use Rattle.lx_spec.specs.Playback.{run_of, run_whole, start_above, tick, ticked}
 pub use Rattle.lx_spec.specs.Run.{first_entry, Run}
 pub use Rattle.lx_spec.specs.Show.{Cue, InRange, Show, Sub, Valid, ValidPatchRow}
-pub use Rattle.lx_spec.specs.SortedList.{entries_above, entry_at, has_entry, placed, taken_out}
+pub use Rattle.lx_spec.specs.SortedList.{entries_above, entry_at, has_entry, placed}
 pub use Rattle.lx_spec.specs.TrackedLevel.{cue_above, cue_below, cue_of, decides, move_in, tracked}
 pub use Rattle.lx_spec.specs.declared.Command.{Command}
 pub use Rattle.lx_spec.specs.declared.Move.{Move}

@@ -1,12 +1,22 @@
 -- An output shows a player when its outputs are mixed from the player's levels, and does so while nothing that goes out changes.
 use Rattle.lx_console.proofs.Imports.{◌≡◌, ℕ, ◌+◌, ◌<◌, max, List, length, take, drop, ◌++◌, AllByRecursion, arith, ap, ◌∙◌, sym, refl}
-use Rattle.lx_console.proofs.Imports.{subst, common_steps, scaled, PatchRow, ValidPatchRow, contribution, Kept, IsTable, StandsForPatch, SamePatch, SameOutputs}
+use Rattle.lx_console.proofs.Imports.{subst, common_steps, get_or, scaled, PatchRow, ValidPatchRow, contribution, Kept, IsTable, StandsForPatch, SamePatch, SameOutputs}
 use Rattle.lx_console.proofs.Imports.{level_now, out_now, Reaches, PatchesOwnChannels, SlotsStand, ShowsPlayer, IsMixedOutput}
 use Rattle.lx_console.specs.declared.kept_output.KeptOutput.{KeptOutput}
 
 -- a list written over the whole of another is itself
 pub written : (n : ℕ) (xs ys : List ℕ) → length xs ≡ n → take n (xs ++ drop (length xs) ys) ≡ xs
 written n xs ys is = grind (arith, common_steps)
+
+-- outputs that were mixed, from what the submasters give and under the master
+pub mixed_outs : (player : Kept) (levels contributions outs : List ℕ) (master : ℕ)
+    → IsTable player.show.channels (contribution player.show player.faders) contributions → length outs ≡ player.show.channels
+    → master ≡ player.master
+    → ((k : ℕ) → k < length outs → get_or outs k 0 ≡ scaled (max (get_or levels k 0) (get_or contributions k 0)) master)
+    → (k : ℕ) → k < length outs
+    → get_or outs k 0 ≡ scaled (max (get_or levels k 0) (contribution player.show player.faders (k + 1))) player.master
+mixed_outs player levels contributions outs master table reach same mixed = λ k within.
+    rw (mixed k within, table.each k (omega (arith, within, reach)), same) refl
 
 pub filled : (k : Kept) (levels : List ℕ) (output : KeptOutput) → IsTable k.show.channels (level_now k) levels → IsMixedOutput levels k output
     → ShowsPlayer k output

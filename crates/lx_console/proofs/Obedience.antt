@@ -1,12 +1,12 @@
 -- A console that stands for a desk obeys as the desk steps.
-use Rattle.lx_console.proofs.Imports.{◌≡◌, ℕ, ◌-◌, List, [], ◌∷◌, ◌++◌, refl, Bool, true, false, cond, Result, Ok, Err, IsOk, slice_set}
-use Rattle.lx_console.proofs.Imports.{IsOkAnd, IfOk, OnOk, OnErr, IfErr, MatchResult, IsTrue, IsFalse, ap, sym, subst, ◌∙◌, inl, inr, PlayKey, Command}
-use Rattle.lx_console.proofs.Imports.{Refusal, AbsentSub, ◌>>=◌, has_entry, Played, press, tick, edited, Desk, opened, step, after_play, after_command}
+use Rattle.lx_console.proofs.Imports.{◌≡◌, ℕ, ◌-◌, List, [], ◌∷◌, ◌++◌, refl, true, false, Result, Ok, Err, IsOk, slice_set}
+use Rattle.lx_console.proofs.Imports.{IsOkAnd, IfOk, OnOk, OnErr, IfErr, MatchResult, IsTrue, IsFalse, ap, sym, ◌∙◌, inl, inr, Command}
+use Rattle.lx_console.proofs.Imports.{Refusal, AbsentSub, ◌>>=◌, has_entry, Played, edited, Desk, opened, step, after_play, after_command}
 use Rattle.lx_console.proofs.Imports.{replay, Kept, kept, KeepsRest, Show, kept-step, kept-replay, Plan, IsRefusal, planned, StandsFor, Obeys, Answers, Refuses}
 use Rattle.std.specs.Result.{result_unwrap_or}
 use Rattle.std.proofs.lemmas.List.Sums.{fold-append}
 use Rattle.lx_spec.specs.declared.Edit.{Edit}
-use Rattle.lx_spec.specs.declared.Key.TheVariants.{Play, Fader, Master}
+use Rattle.lx_spec.specs.declared.Key.TheVariants.{Fader, Master}
 use Rattle.lx_spec.specs.declared.Command.TheVariants as commands
 use Rattle.lx_spec.specs.declared.Refusal.TheVariants.{Memory}
 use Rattle.lx_spec.specs.WantedMemory.{takes_memory}
@@ -25,15 +25,13 @@ stands_after d (Err refusal) now ok = absurd ok
 after_one : (d : Desk) (command : Command) (answer : Result (Unit {0}) Refusal) (before now : Kept) → StandsFor d before
     → Obeys d command answer now → OnErr answer (now ≡ before) → StandsFor (after_command d command) now
 after_one d command (Ok x) before now stands obeys same = stands_after d (step d command) now obeys.ok
-after_one d command (Err refusal) before now stands obeys same =
-    subst (λ (r : Result Desk Refusal). StandsFor (result_unwrap_or r d) now) (sym obeys.err)
-    (record { same = same ∙ stands.same; rest = stands.rest })
+after_one d command (Err refusal) before now stands obeys same = rw obeys.err (record { same = same ∙ stands.same; rest = stands.rest })
 
 pub stands_next : (show : Show) (done : List Command) (command : Command) (answer : Result (Unit {0}) Refusal) (before now : Kept)
     → StandsFor (replay show done) before → Obeys (replay show done) command answer now → OnErr answer (now ≡ before)
     → StandsFor (replay show (done ++ command ∷ [])) now
 stands_next show done command answer before now stands obeys same =
-    subst (λ (d : Desk). StandsFor d now) (sym (fold-append after_command (opened show) done (command ∷ [])))
+    rw (fold-append after_command (opened show) done (command ∷ []))
     (after_one (replay show done) command answer before now stands obeys same)
 
 -- a console that answers stands for the replay with the command, where that is accepted, and else for the one before
@@ -41,7 +39,7 @@ pub stands_answered : (show : Show) (done : List Command) (command : Command) (a
     → StandsFor (replay show done) before → Answers (replay show done) command answer now → OnErr answer (now ≡ before)
     → MatchResult answer (λ x. StandsFor (replay show (done ++ command ∷ [])) now) (λ refusal. StandsFor (replay show done) now)
 stands_answered show done command (Ok x) before now stands answers same =
-    subst (λ (d : Desk). StandsFor d now) (sym (fold-append after_command (opened show) done (command ∷ [])))
+    rw (fold-append after_command (opened show) done (command ∷ []))
     (stands_after (replay show done) (step (replay show done) command) now answers.ok)
 stands_answered show done command (Err refusal) before now stands answers same = record { same = same ∙ stands.same; rest = stands.rest }
 
@@ -51,65 +49,39 @@ stepped : {B : Type 0} (d : Desk) (r : Result B Refusal) (f : B → Desk) (now :
 stepped d (Ok y) f now rest is = record { same = is; rest = rest }
 stepped d (Err refusal) f now rest is = absurd is
 
-obeys_played : {A : Type 0} (d : Desk) (command : Command) (r : Result Played Refusal) (answer : Result A Refusal) (now : Kept)
-    → IfOk (r >>= (λ played. Ok (after_play d played))) KeepsRest → step d command ≡ (r >>= (λ played. Ok (after_play d played)))
-    → OnOk answer (IsOkAnd r (λ played. now ≡ record (kept d) { playback = played.playback })) → IfErr answer (λ refusal. r ≡ Err refusal)
-    → Obeys d command answer now
-obeys_played d command r (Ok x) now rest step_is ok err = record {
-  ok = subst (λ s. IsOkAnd s (λ next. StandsFor next now)) (sym step_is) (stepped d r (after_play d) now rest ok);
+-- a key of the playback, or a tick
+pub obeys_played : {A : Type 0} {d : Desk} {before now : Kept} (command : Command) (play : Kept → Result Played Refusal) (answer : Result A Refusal)
+    → StandsFor d before → step d command ≡ (play (kept d) >>= (λ played. Ok (after_play d played)))
+    → OnOk answer (IsOkAnd (play before) (λ played. now ≡ record before { playback = played.playback }))
+    → IfErr answer (λ refusal. play before ≡ Err refusal) → Obeys d command answer now
+obeys_played {d = d} {now = now} command play (Ok x) stands step_is ok err = record {
+  ok = rw step_is (stepped d (play (kept d)) (after_play d) now (rw step_is at (kept-step d command stands.rest)) (rw stands.same at ok));
   err = tt;
 }
-obeys_played d command r (Err refusal) now rest step_is ok err = record {
+obeys_played {d = d} command play (Err refusal) stands step_is ok err = record {
   ok = tt;
-  err = step_is ∙ ap (λ s. s >>= (λ played. Ok (after_play d played))) err;
+  err = step_is ∙ ap (λ s. s >>= (λ played. Ok (after_play d played))) (rw stands.same at err);
 }
 
--- a key of the playback, and a tick
-pub obeys_play : {A : Type 0} {d : Desk} {before now : Kept} (key : PlayKey) (answer : Result A Refusal) → StandsFor d before
-    → OnOk answer (IsOkAnd (press before.show before.playback key) (λ played. now ≡ record before { playback = played.playback }))
-    → IfErr answer (λ refusal. press before.show before.playback key ≡ Err refusal) → Obeys d (commands.Key (Play key)) answer now
-obeys_play {d = d} {now = now} key answer stands ok err = obeys_played d (commands.Key (Play key)) (press d.show d.playback key) answer now
-    (kept-step d (commands.Key (Play key)) stands.rest) refl
-    (subst (λ (k : Kept). OnOk answer (IsOkAnd (press k.show k.playback key) (λ played. now ≡ record k { playback = played.playback })))
-    stands.same ok) (subst (λ (k : Kept). IfErr answer (λ refusal. press k.show k.playback key ≡ Err refusal)) stands.same err)
-
-pub obeys_tick : {A : Type 0} {d : Desk} {before now : Kept} (answer : Result A Refusal) → StandsFor d before
-    → OnOk answer (IsOkAnd (tick before.show before.playback) (λ played. now ≡ record before { playback = played.playback }))
-    → IfErr answer (λ refusal. tick before.show before.playback ≡ Err refusal) → Obeys d commands.Tick answer now
-obeys_tick {d = d} {now = now} answer stands ok err = obeys_played d commands.Tick (tick d.show d.playback) answer now
-    (kept-step d commands.Tick stands.rest) refl
-    (subst (λ (k : Kept). OnOk answer (IsOkAnd (tick k.show k.playback) (λ played. now ≡ record k { playback = played.playback })))
-    stands.same ok) (subst (λ (k : Kept). IfErr answer (λ refusal. tick k.show k.playback ≡ Err refusal)) stands.same err)
-
 -- a fader, of a submaster that the show has or lacks
-fader_obeys : {A : Type 0} (d : Desk) (s level : ℕ) (b : Bool) (answer : Result A Refusal) (now : Kept)
-    → IfOk (cond b (Ok (record d { faders = slice_set d.faders (s - 1) level })) (Err (AbsentSub s))) KeepsRest → OnOk answer (IsTrue b)
-    → OnOk answer (now ≡ record (kept d) { faders = slice_set d.faders (s - 1) level }) → IfErr answer (λ refusal. refusal ≡ AbsentSub s)
-    → OnErr answer (IsFalse b)
-    → OnOk answer (IsOkAnd (cond b (Ok (record d { faders = slice_set d.faders (s - 1) level })) (Err (AbsentSub s))) (λ next. StandsFor next now))
-    × IfErr answer (λ refusal. cond b (Ok (record d { faders = slice_set d.faders (s - 1) level })) (Err (AbsentSub s)) ≡ Err refusal)
-fader_obeys d s level true (Ok x) now rest there state err absent = (record { same = state; rest = rest }, tt)
-fader_obeys d s level false (Ok x) now rest there state err absent = absurd cc
-fader_obeys d s level true (Err refusal) now rest there state err absent = absurd cc
-fader_obeys d s level false (Err refusal) now rest there state err absent = (tt, ap Err (sym err))
-
 pub obeys_fader : {A : Type 0} {d : Desk} {before now : Kept} (s level : ℕ) (answer : Result A Refusal) → StandsFor d before
     → OnOk answer (IsTrue (has_entry (λ x. x.number) s before.show.subs))
     → OnOk answer (now ≡ record before { faders = slice_set before.faders (s - 1) level })
     → IfErr answer (λ refusal. refusal ≡ AbsentSub s)
     → OnErr answer (IsFalse (has_entry (λ x. x.number) s before.show.subs)) → Obeys d (commands.Key (Fader s level)) answer now
-obeys_fader {d = d} {now = now} s level answer stands there state err absent =
-    let both = fader_obeys d s level (has_entry (λ x. x.number) s d.show.subs) answer now
-    (kept-step d (commands.Key (Fader s level)) stands.rest)
-    (subst (λ (k : Kept). OnOk answer (IsTrue (has_entry (λ x. x.number) s k.show.subs))) stands.same there)
-    (subst (λ (k : Kept). OnOk answer (now ≡ record k { faders = slice_set k.faders (s - 1) level })) stands.same state) err
-    (subst (λ (k : Kept). OnErr answer (IsFalse (has_entry (λ x. x.number) s k.show.subs))) stands.same absent) in
-    record { ok = both.0; err = both.1 }
+obeys_fader {d = d} s level (Ok x) stands there state err absent =
+    let has : has_entry (λ x. x.number) s d.show.subs ≡ true = rw stands.same at there in record {
+      ok = rw has (record { same = rw stands.same at state; rest = rw has at (kept-step d (commands.Key (Fader s level)) stands.rest) });
+      err = tt;
+    }
+obeys_fader {d = d} s level (Err refusal) stands there state err absent =
+    let lacks : has_entry (λ x. x.number) s d.show.subs ≡ false = rw stands.same at absent in
+    record { ok = tt; err = rw lacks (ap Err (sym err)) }
 
 pub obeys_master : {d : Desk} {before now : Kept} (level : ℕ) → StandsFor d before → now ≡ record before { master = level }
     → IsOkAnd (step d (commands.Key (Master level))) (λ next. StandsFor next now)
-obeys_master {d = d} {now = now} level stands state = record {
-  same = subst (λ (k : Kept). now ≡ record k { master = level }) stands.same state;
+obeys_master {d = d} level stands state = record {
+  same = rw stands.same at state;
   rest = kept-step d (commands.Key (Master level)) stands.rest;
 }
 
@@ -158,10 +130,10 @@ pub answers_edit : {A : Type 0} {d : Desk} {before now : Kept} (edit : Edit) (an
     → Answers d (commands.Edit edit) answer now
 answers_edit {d = d} {now = now} edit (Ok x) stands ok err takes = record {
   ok = stepped d (edited d.show edit) (λ show. record d { show = show }) now (kept-step d (commands.Edit edit) stands.rest)
-      (subst (λ (k : Kept). IsOkAnd (edited k.show edit) (λ show. now ≡ record k { show = show })) stands.same ok);
+      (rw stands.same at ok);
   err = tt;
 }
 answers_edit {d = d} edit (Err refusal) stands ok err takes = record {
   ok = tt;
-  err = edited_err d edit refusal (λ memory. takes (ap Err memory)) (subst (λ (k : Kept). IsRefusal k.show edit refusal) stands.same err);
+  err = edited_err d edit refusal (λ memory. takes (ap Err memory)) (rw stands.same at err);
 }

@@ -58,26 +58,16 @@ tick_told show {p} {after} {fired} {at_rest_now} is tells stands =
     let fired_is : is_some made.run ≡ is_some fired = ap (λ (x : Played). is_some x.run) same in
     let facts : IsFollowed q made = due (is_due q) show q in
     let moment : after.moment ≡ p.moment + TICK_STEP = rests.2 ∙ facts.moment_is in
+    let still : at_rest_now ≡ false → made.playback ≡ after = λ r. rests.1 (sym tells ∙ r) in
     record {
       before = p;
       stood = stands;
       later = omega (arith, moment);
       rest = λ r. rests.0 (sym tells ∙ r);
       started = λ r f.
-          let still : made.playback ≡ after = rests.1 (sym tells ∙ r) in
           let s = facts.started (fired_is ∙ f) in
-          record {
-            last = s.0;
-            live_is = ap (λ (x : Playback). x.live) (sym still) ∙ s.1;
-            base = ap (λ (x : Playback). x.base) (sym still) ∙ facts.base_is;
-            now = s.2 ∙ sym moment;
-          };
-      same = λ r f.
-          let still : made.playback ≡ after = rests.1 (sym tells ∙ r) in
-          record {
-            live_is = ap (λ (x : Playback). x.live) (sym still) ∙ facts.same (fired_is ∙ f);
-            base = ap (λ (x : Playback). x.base) (sym still) ∙ facts.base_is;
-          };
+          rw (← still r) (record { last = s.0; live_is = s.1; base = facts.base_is; now = s.2 ∙ sym facts.moment_is });
+      same = λ r f. rw (← still r) (record { live_is = facts.same (fired_is ∙ f); base = facts.base_is });
     }
 
 -- a run that a key started

@@ -1,29 +1,17 @@
 -- The row of one dimmer is taken up into a table that has the others.
-use Rattle.lx_console.proofs.Imports.{◌≡◌, ◌≢◌, ℕ, Some, None, List, arith, ap, sym, ◌∙◌, inl, inr, PatchRow, entry_at, placed, taken_out}
-use Rattle.lx_console.proofs.Imports.{DimmerTable, StandsForPatch, gone, others_stay, stands_alike, entry_at-placed_here, entry_at-placed_other, found_number}
-use Rattle.std.proofs.lemmas.Bool.{cases_order}
+use Rattle.lx_console.proofs.Imports.{◌≡◌, ◌≢◌, ℕ, List, sym, subst, ◌∙◌, inl, inr, Option, IfSome, PatchRow, entry_at}
+use Rattle.lx_console.proofs.Imports.{DimmerTable, StandsForPatch, stands_alike}
+use Rattle.std.proofs.lemmas.Bool.{cases_eq}
+use Rattle.lx_show.specs.ChangedEntry.{exchanged_at}
+use Rattle.lx_edit.proofs.SameLists.{exchanged_here, exchanged_other, found_here}
 
-pub row_set : (rows before : List PatchRow) (d : ℕ) (row : PatchRow) (table : DimmerTable) → entry_at (λ x. x.dimmer) d rows ≡ Some row
+pub row_taken : (rows before : List PatchRow) (d : ℕ) (new : Option PatchRow) (table : DimmerTable) → entry_at (λ x. x.dimmer) d rows ≡ new
     → ((e : ℕ) → e ≢ d → entry_at (λ x. x.dimmer) e rows ≡ entry_at (λ x. x.dimmer) e before)
-    → StandsForPatch (placed (λ x. x.dimmer) row before) table → StandsForPatch rows table
-row_set rows before d row table found others stands =
-    let own : d ≡ row.dimmer = found_number (λ x. x.dimmer) d rows row found in
-    stands_alike (placed (λ x. x.dimmer) row before) rows table (λ e. elim (cases_order row.dimmer e) [
-      | inl here ↦ entry_at-placed_here (λ x. x.dimmer) e row before here
-          ∙ sym (ap (λ n. entry_at (λ x. x.dimmer) n rows) (sym (own ∙ here)) ∙ found)
-      | inr apart ↦
-          let other : row.dimmer ≢ e = λ same. elim apart [ inl low ↦ omega arith | inr high ↦ omega arith ] in
-          entry_at-placed_other (λ x. x.dimmer) e row before other ∙ sym (others e (λ same. other (sym own ∙ sym same)))
-    ]) stands
-
-pub row_cleared : (rows before : List PatchRow) (d : ℕ) (table : DimmerTable) → entry_at (λ x. x.dimmer) d rows ≡ None
-    → ((e : ℕ) → e ≢ d → entry_at (λ x. x.dimmer) e rows ≡ entry_at (λ x. x.dimmer) e before)
-    → StandsForPatch (taken_out (λ x. x.dimmer) d before) table → StandsForPatch rows table
-row_cleared rows before d table none others stands =
-    stands_alike (taken_out (λ x. x.dimmer) d before) rows table (λ e. elim (cases_order d e) [
-      | inl here ↦ ap (λ n. entry_at (λ x. x.dimmer) n (taken_out (λ x. x.dimmer) d before)) (sym here) ∙ gone d before
-          ∙ sym (ap (λ n. entry_at (λ x. x.dimmer) n rows) (sym here) ∙ none)
-      | inr apart ↦
-          let other : d ≢ e = λ same. elim apart [ inl low ↦ omega arith | inr high ↦ omega arith ] in
-          others_stay d e before (λ same. other (sym same)) ∙ sym (others e (λ same. other (sym same)))
+    → StandsForPatch (exchanged_at (λ x. x.dimmer) d new before) table → StandsForPatch rows table
+row_taken rows before d new table is others stands =
+    let key : PatchRow → ℕ = λ x. x.dimmer in
+    let number = subst (λ (o : Option PatchRow). IfSome o (λ x. x.dimmer ≡ d)) is (found_here key d rows) in
+    stands_alike (exchanged_at key d new before) rows table (λ e. elim (cases_eq e d) [
+      | inl here ↦ rw here (exchanged_here key d new before number ∙ sym is)
+      | inr apart ↦ exchanged_other key d e new before number apart ∙ sym (others e apart)
     ]) stands

@@ -2,7 +2,7 @@
 use Rattle.lx_crew.proofs.Imports.{◌≡◌, inl, inr, ℕ, Bool, false, true≢false, Option, Some, None, Result, Ok, Err, List, [], ◌∷◌}
 use Rattle.lx_crew.proofs.Imports.{◌++◌, refl, sym, ap, ◌∙◌, subst, append-nil, append_assoc, arith}
 use Rattle.lx_crew.proofs.Imports.{length-append, IfSome, is_some, Appends, Keeps, SinkFault, AppendsFront}
-use Rattle.lx_crew.proofs.Imports.{CrewEntry, op_text, named, after_entry, crew_answering, crew_text, Desk, Kept, line_of, Session, begin_at, AreAllowed}
+use Rattle.lx_crew.proofs.Imports.{CrewEntry, op_text, named, after_entry, crew_answering, crew_text, Desk, Kept, line_of, Session, begin_at}
 use Rattle.lx_crew.proofs.Imports.{DeskState, begun, IsAcceptedEdit, StandsFor, Tally, extends_line, Message, Line, LongLine, text_in, long_line}
 use Rattle.lx_crew.proofs.Imports.{named_line, entries_of, said, NamedAnswer, AnswersNamed, IsDoneWithEntries, AnsweredAll, AnsweredPart, HasAnswered}
 use Rattle.lx_crew.proofs.Imports.{ToldBySink, true, HasStood, MayFailUnless, spared, AppendsAtLeast, crew_session, all_but_last}
@@ -11,8 +11,8 @@ use Rattle.std.specs.Result.{result_err}
 use Rattle.std.proofs.KnownBytes.{Appends-nil, Appends-trans, Appends-kept}
 use Rattle.std.proofs.lemmas.Grind.{flat_map-append}
 use Rattle.lx_crew.proofs.Lists.{long_means}
-use Rattle.lx_session.proofs.ScriptEnds.{front_more, front_of}
-use Rattle.lx_crew.proofs.LastEntries.{at_least_first, at_least_then, front_then, names_written, session_before, text_before}
+use Rattle.lx_session.proofs.Fronts.{front_more, front_whole, front_then, at_least_then}
+use Rattle.lx_crew.proofs.LastEntries.{at_least_first, names_written, session_before, text_before}
 use Rattle.lx_session.specs.LineAnswer.{FromDesk}
 use Rattle.lx_session.specs.LineReply.{counts_in}
 use Rattle.lx_session.specs.LineState.{meaning_of}
@@ -20,9 +20,6 @@ use Rattle.lx_spec.specs.Session.{Answering, after_each}
 use Rattle.lx_session.proofs.EachLine.{each-append, allowed-append}
 use Rattle.lx_session.proofs.Stood.{spares}
 use Rattle.lx_crew.specs.declared.entry.LineText.{LineText}
-
-done_none : (ample : Bool) (d : Desk) → IsDoneWithEntries ample d [] [] (begin_at (begun d))
-done_none ample d = record { each = refl; is = refl; allows = tt }
 
 -- Where fewer attempts may fail the session is the same.
 same_spared : {A : Type 0} (ample : Bool) (by : Answering A) (failures : List (Option ℕ)) (s : Session by.State) (xs : List A)
@@ -32,18 +29,17 @@ same_spared ample by [] s (x ∷ xs) = same_spared ample by [] (by.answer None s
 same_spared ample by (failed ∷ failures) s (x ∷ xs) = same_spared ample by failures (by.answer failed s x) xs
 
 -- one more entry, of which this attempt failed, if one did
-done_more : (ample : Bool) (d : Desk) (entries : List CrewEntry) (failures : List (Option ℕ)) (now next : Session DeskState) (e : CrewEntry)
+done_more : {ample : Bool} {d : Desk} {entries : List CrewEntry} {failures : List (Option ℕ)} {now next : Session DeskState} (e : CrewEntry)
     (failed : Option ℕ) → IsDoneWithEntries ample d entries failures now → after_entry failed now e ≡ next
     → IfSome failed (λ attempt. MayFailUnless ample (IsAcceptedEdit now.state.desk (line_of e.line)))
     → IsDoneWithEntries ample d (entries ++ e ∷ []) (failures ++ failed ∷ []) next
-done_more ample d entries failures now next e failed done is may =
+done_more {ample} {d} {entries} {failures} e failed done is may =
     let s = begin_at (begun d) in
-    let by = spared ample crew_answering in
     record {
       each = omega (arith, done.each, length-append failures (failed ∷ []), length-append entries (e ∷ []));
       is = each-append crew_answering failures (failed ∷ []) s entries (e ∷ []) done.each ∙ ap (λ t. after_entry failed t e) done.is ∙ is;
-      allows = allowed-append by failures (failed ∷ []) s entries (e ∷ []) done.each done.allows
-          (subst (λ t. AreAllowed by (failed ∷ []) t (e ∷ [])) (sym done.is ∙ same_spared ample crew_answering failures s entries) (may, tt));
+      allows = allowed-append (spared ample crew_answering) failures (failed ∷ []) s entries (e ∷ []) done.each done.allows
+          (rw (← same_spared ample crew_answering failures s entries, done.is) (may, tt));
     }
 
 -- What is said of one more.
@@ -55,15 +51,21 @@ said_more popped e more is =
 
 pub answered_none : (ample : Bool) (d : Desk) (h : Option (List ℕ)) (console : Kept) (tally : Tally) → StandsFor d console
     → counts_in tally ≡ record { ok = 0; refused = 0; bad = 0 } → AnsweredAll ample d [] h h console tally
-answered_none ample d h console tally stands counts =
-    record { failures = []; now = begin_at (begun d); done = done_none ample d; text = Appends-nil h; counts = sym counts; stands = stands }
+answered_none ample d h console tally stands counts = record {
+  failures = [];
+  now = begin_at (begun d);
+  done = record { each = refl; is = refl; allows = tt };
+  text = Appends-nil h;
+  counts = sym counts;
+  stands = stands;
+}
 
 -- all of what was popped is answered, up to a fault of the output
-all_part : (ample : Bool) (d : Desk) (popped : List Message) (start h : Option (List ℕ)) (console : Kept) (failures : List (Option ℕ))
-    (now : Session DeskState) → IsDoneWithEntries ample d (said popped) failures now → AppendsFront start h now.text
+all_part : {ample : Bool} {d : Desk} {popped : List Message} {start h : Option (List ℕ)} {console : Kept} {failures : List (Option ℕ)}
+    {now : Session DeskState} → IsDoneWithEntries ample d (said popped) failures now → AppendsFront start h now.text
     → AppendsAtLeast start h (crew_text d (all_but_last (said popped)) failures) → HasStopped d (said popped) failures start h console
     → AnsweredPart ample d popped start h console
-all_part ample d popped start h console failures now done text earlier stopped = record {
+all_part {popped = popped} {start} {h} {failures = failures} done text earlier stopped = record {
   first = popped;
   rest = [];
   are = sym (append-nil popped);
@@ -75,8 +77,8 @@ all_part ample d popped start h console failures now done text earlier stopped =
 }
 
 -- One more entry.
-module _ {K : Type 0} (ample : Bool) (d : Desk) (told : ToldBySink K) (sink sink' : K) (popped : List Message) (start : Option (List ℕ))
-    (console console' : Kept) (tally tally' : Tally) (entry : Message) (e : CrewEntry) (refusals refusals' : ℕ)
+module _ {K : Type 0} {ample : Bool} {d : Desk} (told : ToldBySink K) (sink sink' : K) {popped : List Message} {start : Option (List ℕ)}
+    {console : Kept} (console' : Kept) {tally : Tally} (tally' : Tally) (entry : Message) {e : CrewEntry} (refusals refusals' : ℕ)
     (stood : ample ≡ true → HasStood refusals refusals') (a : AnsweredAll ample d popped start (told.holds sink) console tally)
     (is : entries_of entry.place entry.number entry.sent ≡ e ∷ []) where
   -- the session after it
@@ -84,16 +86,7 @@ module _ {K : Type 0} (ample : Bool) (d : Desk) (told : ToldBySink K) (sink sink
       → IfSome failed (λ attempt. MayFailUnless ample (IsAcceptedEdit a.now.state.desk (line_of e.line)))
       → IsDoneWithEntries ample d (said (popped ++ entry ∷ [])) (a.failures ++ failed ∷ []) next
   done_so failed next goes may = subst (λ es. IsDoneWithEntries ample d es (a.failures ++ failed ∷ []) next)
-      (sym (said_more popped entry (e ∷ []) is)) (done_more ample d (said popped) a.failures a.now next e failed a.done goes may)
-
-  -- the session before it, and the text up to its name
-  before_is : (failed : Option ℕ) → crew_session d (all_but_last (said (popped ++ entry ∷ []))) (a.failures ++ failed ∷ []) ≡ a.now
-  before_is failed = ap (λ es. crew_session d (all_but_last es) (a.failures ++ failed ∷ [])) (said_more popped entry (e ∷ []) is)
-      ∙ session_before ample d (said popped) a.failures (failed ∷ []) a.now e a.done
-
-  name_is : (failed : Option ℕ) → text_to_last_name d (said (popped ++ entry ∷ [])) (a.failures ++ failed ∷ []) ≡ a.now.text ++ op_text e
-  name_is failed = ap (λ es. text_to_last_name d es (a.failures ++ failed ∷ [])) (said_more popped entry (e ∷ []) is)
-      ∙ text_before ample d (said popped) a.failures (failed ∷ []) a.now e a.done
+      (sym (said_more popped entry (e ∷ []) is)) (done_more e failed a.done goes may)
 
   -- a part of it was written: its line is done, and all of its name was written, or neither
   part_so : (failed : Option ℕ) (next : Session DeskState)
@@ -103,16 +96,20 @@ module _ {K : Type 0} (ample : Bool) (d : Desk) (told : ToldBySink K) (sink sink
       ⊎ (AppendsFront start (told.holds sink') (a.now.text ++ op_text e) × StandsFor a.now.state.desk console')
       → AnsweredPart ample d (popped ++ entry ∷ []) start (told.holds sink') console'
   part_so failed next done text earlier stopped =
-      let name = sym (name_is failed) in
-      all_part ample d (popped ++ entry ∷ []) start (told.holds sink') console' (a.failures ++ failed ∷ []) next done text
-      (subst (λ (s : Session DeskState). AppendsAtLeast start (told.holds sink') s.text) (sym (before_is failed)) earlier) (elim stopped [
+      let fs = a.failures ++ failed ∷ [] in
+      let all = said_more popped entry (e ∷ []) is in
+      let before : a.now ≡ crew_session d (all_but_last (said (popped ++ entry ∷ []))) fs =
+      sym (ap (λ es. crew_session d (all_but_last es) fs) all ∙ session_before (failed ∷ []) e a.done) in
+      let name : a.now.text ++ op_text e ≡ text_to_last_name d (said (popped ++ entry ∷ [])) fs =
+      sym (ap (λ es. text_to_last_name d es fs) all ∙ text_before (failed ∷ []) e a.done) in
+      all_part done text (subst (λ (s : Session DeskState). AppendsAtLeast start (told.holds sink') s.text) before earlier) (elim stopped [
         | inl whole ↦ inl (
           subst (λ (v : List ℕ). AppendsAtLeast start (told.holds sink') v) name whole.0,
           subst (λ (s : Session DeskState). StandsFor s.state.desk console') (sym done.is) whole.1,
         )
         | inr front ↦ inr (
           subst (λ (v : List ℕ). AppendsFront start (told.holds sink') v) name front.0,
-          subst (λ (s : Session DeskState). StandsFor s.state.desk console') (sym (before_is failed)) front.1,
+          subst (λ (s : Session DeskState). StandsFor s.state.desk console') before front.1,
         )
       ])
 
@@ -128,56 +125,33 @@ module _ {K : Type 0} (ample : Bool) (d : Desk) (told : ToldBySink K) (sink sink
     name_whole : Appends start (told.holds m.between) (a.now.text ++ op_text e)
     name_whole = Appends-trans start (told.holds sink) (told.holds m.between) a.now.text (op_text e) a.text m.named
 
-  answered_line : (b : Bool) → NamedAnswer refusals refusals' told sink sink' (Ok b) a.now (op_text e) (line_of e.line) console' tally'
-      → AnsweredAll ample d (popped ++ entry ∷ []) start (told.holds sink') console' tally'
-  answered_line b m =
+  pub answered_by : (result : Result Bool SinkFault)
+      → AnswersNamed refusals refusals' told sink sink' result a.now (op_text e) (line_of e.line) console' tally'
+      → HasAnswered ample d (popped ++ entry ∷ []) start (told.holds sink') console' tally' (result_err result)
+  answered_by (Ok b) (inl cut) = absurd (true≢false (sym cut.0))
+  answered_by (Ok b) (inr m) =
       let w = m.answer.answer in record {
         failures = a.failures ++ w.failed ∷ [];
         now = w.next;
         done = line_done (Ok b) m;
-        text = subst (λ (x : List ℕ). Appends start (told.holds sink') x) (sym w.text)
+        text = rw w.text
             (Appends-trans start (told.holds m.between) (told.holds sink') (a.now.text ++ op_text e) w.reply (name_whole (Ok b) m) w.puts.whole);
         counts = w.counts;
         stands = w.stands;
       }
-
-  -- or a prefix of its reply was written
-  answered_front : (f : SinkFault) → NamedAnswer refusals refusals' told sink sink' (Err f) a.now (op_text e) (line_of e.line) console' tally'
-      → AnsweredPart ample d (popped ++ entry ∷ []) start (told.holds sink') console'
-  answered_front f m =
+  answered_by (Err f) (inl cut) =
+      let more = extends_line None (named a.now e) (line_of e.line) in
+      let front = front_then start (told.holds sink) (told.holds sink') a.now.text (op_text e) a.text cut.1 in
+      part_so None (after_entry None a.now e) (done_so None (after_entry None a.now e) refl tt)
+      (front_more start (told.holds sink') (a.now.text ++ op_text e) more.more (after_entry None a.now e).text more.text front)
+      (at_least_then start (told.holds sink) (told.holds sink') a.now.text (op_text e) a.text cut.1) (inr (front, cut.2))
+  answered_by (Err f) (inr m) =
       let w = m.answer.answer in
       let name = a.now.text ++ op_text e in
       let whole = at_least_then start (told.holds m.between) (told.holds sink') name w.reply (name_whole (Err f) m) w.puts.part in
-      part_so w.failed w.next (line_done (Err f) m) (subst (λ (v : List ℕ). AppendsFront start (told.holds sink') v) (sym w.text)
-      (front_then start (told.holds m.between) (told.holds sink') name w.reply (name_whole (Err f) m) w.puts.part))
+      part_so w.failed w.next (line_done (Err f) m)
+      (rw w.text (front_then start (told.holds m.between) (told.holds sink') name w.reply (name_whole (Err f) m) w.puts.part))
       (at_least_first start (told.holds sink') a.now.text (op_text e) whole) (inl (whole, w.stands))
-
-  -- or a prefix of its name
-  answered_name : AppendsFront (told.holds sink) (told.holds sink') (op_text e) → StandsFor a.now.state.desk console'
-      → AnsweredPart ample d (popped ++ entry ∷ []) start (told.holds sink') console'
-  answered_name name stands =
-      let more = extends_line None (named a.now e) (line_of e.line) in
-      let front = front_then start (told.holds sink) (told.holds sink') a.now.text (op_text e) a.text name in
-      part_so None (after_entry None a.now e) (done_so None (after_entry None a.now e) refl tt)
-      (front_more start (told.holds sink') (a.now.text ++ op_text e) more.more (after_entry None a.now e).text more.text front)
-      (at_least_then start (told.holds sink) (told.holds sink') a.now.text (op_text e) a.text name) (inr (front, stands))
-
-  answered_by : (result : Result Bool SinkFault) → AnswersNamed refusals refusals' told sink sink' result a.now (op_text e) (line_of e.line) console' tally'
-      → HasAnswered ample d (popped ++ entry ∷ []) start (told.holds sink') console' tally' (result_err result)
-  answered_by (Ok b) (inl cut) = absurd (true≢false (sym cut.0))
-  answered_by (Ok b) (inr m) = answered_line b m
-  answered_by (Err f) (inl cut) = answered_name cut.1 cut.2
-  answered_by (Err f) (inr m) = answered_front f m
-
-answered_so_far : (ample : Bool) (d : Desk) (popped : List Message) (start h : Option (List ℕ)) (console : Kept) (tally : Tally)
-    → AnsweredAll ample d popped start h console tally → AnsweredPart ample d popped start h console
-answered_so_far ample d popped start h console tally a =
-    let text : Appends start h (crew_text d (said popped) a.failures) =
-    subst (λ (s : Session DeskState). Appends start h s.text) (sym a.done.is) a.text in
-    let names = names_written d (said popped) a.failures start h text in
-    all_part ample d popped start h console a.failures a.now a.done (front_of start h a.now.text [] a.now.text (sym (append-nil a.now.text)) a.text)
-    (at_least_first start h _ _ names)
-    (inl (names, subst (λ (s : Session DeskState). StandsFor s.state.desk console) (sym a.done.is) a.stands))
 
 -- An entry has a line, which is given or, being too long, isn't.
 pub record IsSaid (entry : Message) (given : Option (List ℕ)) : Type 0 where
@@ -202,51 +176,40 @@ said_long entry given is none = record {
 
 -- one more entry was answered, where the output had no fault before
 pub answered_entry : {K : Type 0} (ample : Bool) (refusals refusals' : ℕ) (told : ToldBySink K) (sink sink' : K)
-    (result : Result Bool SinkFault) (d : Desk) (popped : List Message) (start : Option (List ℕ)) (console console' : Kept)
-    (tally tally' : Tally) (entry : Message) (given : Option (List ℕ)) (output output' : Option SinkFault) → IsSaid entry given
+    {result : Result Bool SinkFault} (d : Desk) (popped : List Message) (start : Option (List ℕ)) (console console' : Kept)
+    (tally tally' : Tally) {entry : Message} {given : Option (List ℕ)} {output output' : Option SinkFault} → IsSaid entry given
     → output ≡ None → output' ≡ result_err result → (ample ≡ true → HasStood refusals refusals')
     → FromDesk console tally (λ s. AnswersNamed refusals refusals' told sink sink' result s
     (op_text (named_line entry.place entry.number [])) (meaning_of given) console' tally')
     → HasAnswered ample d popped start (told.holds sink) console tally output
     → HasAnswered ample d (popped ++ entry ∷ []) start (told.holds sink') console' tally' output'
-answered_entry ample refusals refusals' told sink sink' result d popped start console console' tally tally' entry given output output' has
-    none is stood done so_far =
-    let a : AnsweredAll ample d popped start (told.holds sink) console tally =
-    subst (λ o. HasAnswered ample d popped start (told.holds sink) console tally o) none so_far in
-    let e = named_line entry.place entry.number has.line in
-    subst (λ o. HasAnswered ample d (popped ++ entry ∷ []) start (told.holds sink') console' tally' o) (sym is)
-    (answered_by ample d told sink sink' popped start console console' tally tally' entry e refusals refusals' stood a has.said result
-    (subst (λ m. AnswersNamed refusals refusals' told sink sink' result a.now (op_text e) m console' tally') has.means
-    (done a.now a.stands a.counts)))
+answered_entry ample refusals refusals' told sink sink' {result} d popped start console console' tally tally' {entry} has none is stood done so_far =
+    let a : AnsweredAll ample d popped start (told.holds sink) console tally = rw none at so_far in
+    rw is (answered_by told sink sink' console' tally' entry refusals refusals' stood a has.said result
+    (rw has.means at (done a.now a.stands a.counts)))
 
 -- an output without a fault
 pub none_is : (output : Option SinkFault) → false ≡ is_some output → output ≡ None
 none_is None e = refl
 none_is (Some fault) e = cc
 
--- a flush leaves what is written
-flushed_by : {T : Type 0} (result : Result T SinkFault) (ample : Bool) (d : Desk) (popped : List Message) (start h : Option (List ℕ))
-    (console : Kept) (tally : Tally) → AnsweredAll ample d popped start h console tally
-    → HasAnswered ample d popped start h console tally (result_err result)
-flushed_by (Ok x) ample d popped start h console tally a = a
-flushed_by (Err f) ample d popped start h console tally a = answered_so_far ample d popped start h console tally a
-
--- a flush, where the output had no fault before
+-- a flush, where the output had no fault before, leaves what is written
 pub answered_flush : {T : Type 0} (result : Result T SinkFault) (ample : Bool) (d : Desk) (popped : List Message)
-    (start h h' : Option (List ℕ)) (console : Kept) (tally : Tally) (output output' : Option SinkFault) → output ≡ None
+    (start h h' : Option (List ℕ)) (console : Kept) (tally : Tally) {output output' : Option SinkFault} → output ≡ None
     → output' ≡ result_err result → Keeps h h' → HasAnswered ample d popped start h console tally output
     → HasAnswered ample d popped start h' console tally output'
-answered_flush result ample d popped start h h' console tally output output' none is kept so_far =
-    let a : AnsweredAll ample d popped start h console tally =
-    subst (λ o. HasAnswered ample d popped start h console tally o) none so_far in
-    subst (λ o. HasAnswered ample d popped start h' console tally o) (sym is) (flushed_by result ample d popped start h' console tally (record {
-      failures = a.failures;
-      now = a.now;
-      done = a.done;
-      text = Appends-kept start h h' a.now.text a.text kept;
-      counts = a.counts;
-      stands = a.stands;
-    }))
+answered_flush {T} result ample d popped start h h' console tally none is kept so_far =
+    let a : AnsweredAll ample d popped start h console tally = rw none at so_far in
+    let text = Appends-kept start h h' a.now.text a.text kept in
+    rw is (flushed result a text) where
+      flushed : (r : Result T SinkFault) (a : AnsweredAll ample d popped start h console tally) → Appends start h' a.now.text
+          → HasAnswered ample d popped start h' console tally (result_err r)
+      flushed (Ok x) a text = record { failures = a.failures; now = a.now; done = a.done; text = text; counts = a.counts; stands = a.stands }
+      flushed (Err f) a text =
+          let whole = subst (λ (s : Session DeskState). Appends start h' s.text) (sym a.done.is) text in
+          let names = names_written d (said popped) a.failures start h' whole in
+          all_part a.done (front_whole start h' a.now.text text) (at_least_first start h' _ _ names)
+          (inl (names, subst (λ (s : Session DeskState). StandsFor s.state.desk console) (sym a.done.is) a.stands))
 
 -- What comes after a fault of the output is thrown away.
 pub thrown_away : (ample : Bool) (d : Desk) (popped : List Message) (start h : Option (List ℕ)) (console : Kept) (tally : Tally)

@@ -13,42 +13,64 @@ use Rattle.lx_crew.proofs.MergedEntries.{SentAt, AllSent, IsTrueTo, Alike, true_
 use Rattle.lx_crew.proofs.MergedEntries.{same_session, same_before, same_name, merged, merged_so_far}
 use Rattle.lx_crew.proofs.Works.{complete}
 
--- the lines of the operator at a place, if there is one
-abbrev pub lines_at : {S : Type 0} (told : ToldBySource S) (Its : Pass Message View → Type 0) (places : List (Option S))
-    (ys : List (Operator S)) → EachAt (Retired told Its places) ys → (k : ℕ) → (k < length ys) ⊎ (length ys ≤ k) → List (List ℕ)
-lines_at told Its places ys h k (inl within) = (h k (get_within ys k within).0 (get_within ys k within).1).sent.lines
-lines_at told Its places ys h k (inr past) = []
-
-abbrev pub lines_of : {S : Type 0} (told : ToldBySource S) (Its : Pass Message View → Type 0) (places : List (Option S))
-    (ys : List (Operator S)) → EachAt (Retired told Its places) ys → ℕ → List (List ℕ)
-lines_of told Its places ys h k = lines_at told Its places ys h k (cases_lt k (length ys))
-
 last_ends : (fault : Option OperatorFault) → is_last (last_entry fault) ≡ true
 last_ends None = refl
 last_ends (Some ReadFault) = refl
 last_ends (Some InputTooLong) = refl
 
--- Each operator's entries among what was popped are those of its lines.
-sent_at : {S : Type 0} (told : ToldBySource S) (Its : Pass Message View → Type 0) (places : List (Option S))
-    (ys : List (Operator S)) (popped items : List Message) (n : ℕ) (h : EachAt (Retired told Its places) ys) → length ys ≡ n
-    → Learned (engine_view n popped (map owned ys ++ [])) items → ((k : ℕ) → k < n → has_last (of_place k popped) ≡ true) → (k : ℕ)
-    → (c : (k < length ys) ⊎ (length ys ≤ k)) → AllSent k (of_place k popped) (lines_at told Its places ys h k c)
-    ⊎ ((of_place k popped ≡ []) × (lines_at told Its places ys h k c ≡ []))
-sent_at told Its places ys popped items n h len learned ended k (inl within) =
-    let y = get_within ys k within in
-    let r = h k y.0 y.1 in
-    let s = r.sent in
-    inl (record {
-      front = s.entries;
-      last = s.last;
-      are = complete told Its places ys popped items learned.lists k y.0 y.1 r (ended k (omega (arith, len, within)));
-      have = s.have;
-      ends = ap is_last s.ends ∙ last_ends y.0.fault;
-    })
-sent_at told Its places ys popped items n h len learned ended k (inr past) =
-    let none : of_place k popped ++ of_place k items ≡ [] =
-    sym (filter-append (λ (x : Message). x.place == k) popped items) ∙ learned.others k (omega (arith, len, past)) in
-    inr ((none_both (of_place k popped) (of_place k items) none).0, refl)
+module _ {S : Type 0} (told_in : ToldBySource S) (Its : Pass Message View → Type 0) (places : List (Option S)) (ys : List (Operator S))
+    (h : EachAt (Retired told_in Its places) ys) where
+  -- the lines of the operator at a place, if there is one
+  abbrev lines_at : (k : ℕ) → (k < length ys) ⊎ (length ys ≤ k) → List (List ℕ)
+  lines_at k (inl within) = (h k (get_within ys k within).0 (get_within ys k within).1).sent.lines
+  lines_at k (inr past) = []
+
+  abbrev lines_of : ℕ → List (List ℕ)
+  lines_of k = lines_at k (cases_lt k (length ys))
+
+  -- Each operator's entries among what was popped are those of its lines.
+  sent_at : (popped items : List Message) (n : ℕ) → length ys ≡ n → Learned (engine_view n popped (map owned ys ++ [])) items
+      → ((k : ℕ) → k < n → has_last (of_place k popped) ≡ true) → (k : ℕ) → (c : (k < length ys) ⊎ (length ys ≤ k))
+      → AllSent k (of_place k popped) (lines_at k c) ⊎ ((of_place k popped ≡ []) × (lines_at k c ≡ []))
+  sent_at popped items n len learned ended k (inl within) =
+      let y = get_within ys k within in
+      let r = h k y.0 y.1 in
+      let s = r.sent in
+      inl (record {
+        front = s.entries;
+        last = s.last;
+        are = complete told_in Its places ys popped items learned.lists k y.0 y.1 r (ended k (omega (arith, len, within)));
+        have = s.have;
+        ends = ap is_last s.ends ∙ last_ends y.0.fault;
+      })
+  sent_at popped items n len learned ended k (inr past) =
+      let none : of_place k popped ++ of_place k items ≡ [] =
+      sym (filter-append (λ (x : Message). x.place == k) popped items) ∙ learned.others k (omega (arith, len, past)) in
+      inr ((none_both (of_place k popped) (of_place k items) none).0, refl)
+
+  -- An operator's source is back, and its lines are these.
+  back_at : (places' : List (Option S)) (told : List (Option OperatorFault)) → length ys ≡ length places
+      → EachAt (λ k y. slice_get places' k ≡ Some (Some y.source)) ys → EachAt (λ k y. slice_get told k ≡ Some y.fault) ys
+      → (place : ℕ) (start : S) → slice_get places place ≡ Some (Some start)
+      → (c : (place < length ys) ⊎ (length ys ≤ place)) → ScriptIsBack told_in places' told place start (lines_at place c)
+  back_at places' told len back says place start at (inl within) =
+      let y = get_within ys place within in
+      let r = h place y.0 y.1 in
+      let own : Some (Some r.start) ≡ Some (Some start) = sym r.source ∙ at in
+      let from : r.start ≡ start = cc in record {
+        source = y.0.source;
+        fault = y.0.fault;
+        place_is = back place y.0 y.1;
+        fault_is = says place y.0 y.1;
+        ended = subst (λ s. ScriptHasEnded told_in s y.0.source y.0.fault r.sent.lines) from r.sent.ended;
+      }
+  back_at places' told len back says place start at (inr past) =
+      absurd (let within = slice_get_within places place (Some start) at in omega (arith, len, past, within))
+
+  no_more : length ys ≡ length places → (operator : ℕ) → length places < operator → by_number lines_of operator ≡ []
+  no_more len zero past = refl
+  no_more len (suc k) past = elim (cases_lt k (length ys)) as (λ c. lines_at k c ≡ [])
+      [ inl within ↦ absurd (omega (arith, len, past, within)) | inr none ↦ refl ]
 
 -- what was done where the output had a fault, by other entries of the same session
 stopped_at : (d : Desk) (xs ys : List CrewEntry) (failures : List (Option ℕ)) (held held' : Option (List ℕ)) (console : Kept) → Alike xs ys
@@ -97,33 +119,6 @@ written ample d lines popped held held' console tally (Some fault) sent a =
       stopped = stopped_at d xs ys a.failures held held' console alike a.stopped;
     }
 
--- An operator's source is back, and its lines are these.
-back_at : {S : Type 0} (told_in : ToldBySource S) (Its : Pass Message View → Type 0) (places places' : List (Option S))
-    (told : List (Option OperatorFault)) (ys : List (Operator S)) (h : EachAt (Retired told_in Its places) ys)
-    → length ys ≡ length places → EachAt (λ k y. slice_get places' k ≡ Some (Some y.source)) ys
-    → EachAt (λ k y. slice_get told k ≡ Some y.fault) ys → (place : ℕ) (start : S) → slice_get places place ≡ Some (Some start)
-    → (c : (place < length ys) ⊎ (length ys ≤ place)) → ScriptIsBack told_in places' told place start (lines_at told_in Its places ys h place c)
-back_at told_in Its places places' told ys h len back says place start at (inl within) =
-    let y = get_within ys place within in
-    let r = h place y.0 y.1 in
-    let own : Some (Some r.start) ≡ Some (Some start) = sym r.source ∙ at in
-    let from : r.start ≡ start = cc in record {
-      source = y.0.source;
-      fault = y.0.fault;
-      place_is = back place y.0 y.1;
-      fault_is = says place y.0 y.1;
-      ended = subst (λ s. ScriptHasEnded told_in s y.0.source y.0.fault r.sent.lines) from r.sent.ended;
-    }
-back_at told_in Its places places' told ys h len back says place start at (inr past) =
-    absurd (let within = slice_get_within places place (Some start) at in omega (arith, len, past, within))
-
-no_more : {S : Type 0} (told : ToldBySource S) (Its : Pass Message View → Type 0) (places : List (Option S))
-    (ys : List (Operator S)) (h : EachAt (Retired told Its places) ys) → length ys ≡ length places → (operator : ℕ)
-    → length places < operator → by_number (lines_of told Its places ys h) operator ≡ []
-no_more told Its places ys h len zero past = refl
-no_more told Its places ys h len (suc k) past = elim (cases_lt k (length ys)) as (λ c. lines_at told Its places ys h k c ≡ [])
-    [ inl within ↦ absurd (omega (arith, len, past, within)) | inr none ↦ refl ]
-
 pub crewed : {S K : Type 0} (ample : Bool) (told_in : ToldBySource S) (told_out : ToldBySink K) (Its : Pass Message View → Type 0) (d : Desk)
     (places places' : List (Option S)) (sink sink' : K) (console : Kept) (tally : Tally) (output : Option SinkFault)
     (told : List (Option OperatorFault)) (ys : List (Operator S)) (popped items : List Message) (n : ℕ)
@@ -141,10 +136,10 @@ crewed ample told_in told_out Its d places places' sink sink' console tally outp
       lines = by_number lines;
       same_places = same;
       each = λ place start at. subst (λ ls. ScriptIsBack told_in places' told place start ls) (sym (ap (by_number lines) (add-one place)))
-          (back_at told_in Its places places' told ys h count back says place start at (cases_lt place (length ys)));
+          (back_at told_in Its places ys h places' told count back says place start at (cases_lt place (length ys)));
       none = refl;
       no_more = no_more told_in Its places ys h count;
       others = others;
       written = written ample d lines popped (told_out.holds sink) (told_out.holds sink') console tally output
-          (λ k. sent_at told_in Its places ys popped items n h len learned ended k (cases_lt k (length ys))) answered;
+          (λ k. sent_at told_in Its places ys h popped items n len learned ended k (cases_lt k (length ys))) answered;
     }

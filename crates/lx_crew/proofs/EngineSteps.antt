@@ -1,13 +1,9 @@
 -- What the engine came to, with one more entry.
 use Rattle.lx_crew.proofs.Imports.{◌≡◌, ◌⊎◌, inl, inr, ⊎_elim, ℕ, ◌≤◌, Bool, true, Option, Some, List, [], ◌∷◌, ◌++◌, slice_get}
-use Rattle.lx_crew.proofs.Imports.{refl, ap, sym, subst, ◌∙◌, arith, SinkFault, Rose, Desk, Kept, Tally, Message, View, of_place, is_last, has_last}
-use Rattle.lx_crew.proofs.Imports.{engine_view, Takes, HasAnswered, Marked, OutputCause, ToldBySink}
+use Rattle.lx_crew.proofs.Imports.{refl, sym, subst, ◌∙◌, arith, SinkFault, Rose, Desk, Kept, Tally, Message, of_place, is_last, has_last}
+use Rattle.lx_crew.proofs.Imports.{HasAnswered, Marked, OutputCause, ToldBySink}
 use Rattle.lx_io.specs.declared.sink.SinkFault.TheVariants.{Failed, Memory}
 use Rattle.lx_crew.proofs.Lists.{last_on, last_here}
-
-pub takes_on : (v w : View) (n : ℕ) (popped : List Message) (e : Message) → v ≡ engine_view n popped [] → Takes v e w
-    → w ≡ engine_view n (popped ++ e ∷ []) []
-takes_on v w n popped e h i = i ∙ ap (λ (u : View). record u { popped = u.popped ++ e ∷ [] }) h
 
 pub ended_on : (before after : List Bool) (popped : List Message) (e : Message) → Marked e before after
     → ((k : ℕ) → slice_get before k ≡ Some true → has_last (of_place k popped) ≡ true)

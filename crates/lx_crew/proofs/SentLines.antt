@@ -13,7 +13,8 @@ use Rattle.lx_lex.proofs.TakenLines.{all_texts}
 use Rattle.lx_spec.specs.Text.{without_cr, lines_of}
 use Rattle.lx_spec.specs.CutInput.{CutOff}
 use Rattle.lx_session.specs.LineOutcome.{PassedLine, QuitLine}
-use Rattle.lx_session.proofs.SoFar.{GoOn, Passed, go_on_append, begins, begins_more, ends_after, ends_here, fits, too_long, with_both}
+use Rattle.lx_session.proofs.SoFar.{GoOn, Passed, begins, begins_more, ends_after, ends_here, fits, too_long, with_both}
+use Rattle.lx_spec.proofs.Lists.{all_append}
 use Rattle.lx_crew.specs.Scripts.{CutLines}
 use Rattle.lx_crew.specs.declared.entry.LineText.{LineText}
 use Rattle.lx_crew.specs.declared.fault.OperatorFault.TheVariants as ends
@@ -95,10 +96,6 @@ next_number told place a b v s none =
     let pushed : length v.pushed ≡ length s.entries = ap (λ (w : View). length w.pushed) s.view in
     omega (arith, lines, length-map s.passed.raws without_cr, s.passed.handed.number, none, pushed)
 
-pushed_on : (v w : View) (place : ℕ) (es : List Message) (e : Message) → v ≡ operator_view place es
-    → w ≡ record v { pushed = v.pushed ++ e ∷ [] } → w ≡ operator_view place (es ++ e ∷ [])
-pushed_on v w place es e h i = i ∙ ap (λ (u : View). record u { pushed = u.pushed ++ e ∷ [] }) h
-
 -- one more line, with its entry
 line_more : {S : Type 0} (told : ToldBySource S) (place : ℕ) (a b : Lines S) (v : View) (e : Message) (l : List ℕ)
     → (s : SentSoFar told place a b v) → e.place ≡ place → e.number ≡ length v.pushed + 1 → HasText e.sent l
@@ -118,10 +115,11 @@ sent_more told place a b c v w e s t own is more =
       passed = record {
         raws = raws ++ raw ∷ [];
         handed = handed_then told a b c raws (raw ∷ []) s.passed.handed t.line.handed;
-        go_on = subst GoOn texts (go_on_append (map without_cr raws) (without_cr raw) s.passed.go_on t.line.more);
+        go_on = subst GoOn texts
+            (all_append (λ l. ends_script l ≡ false) (map without_cr raws) (without_cr raw ∷ []) s.passed.go_on (t.line.more, tt));
       };
       entries = s.entries ++ e ∷ [];
-      view = pushed_on v w place s.entries e s.view more;
+      view = rw s.view at more;
       have = subst (HaveLines place 1 (s.entries ++ e ∷ [])) texts (line_more told place a b v e (without_cr raw) s own is t.text);
     }
 
@@ -214,7 +212,7 @@ sent_all told place source a b c v w e fault began s later t own more = record {
   lines = map without_cr s.passed.raws;
   entries = s.entries;
   last = e;
-  view = pushed_on v w place s.entries e s.view more;
+  view = rw s.view at more;
   have = s.have;
   own = own;
   ends = t.0;
@@ -232,7 +230,7 @@ sent_to_quit told place source a b c v w x e last began s q own is more end own'
       lines = map without_cr s.passed.raws ++ line ∷ [];
       entries = s.entries ++ e ∷ [];
       last = last;
-      view = pushed_on w x place (s.entries ++ e ∷ []) last (pushed_on v w place s.entries e s.view more) more';
+      view = rw (rw s.view at more) at more';
       have = line_more told place a b v e line s own is q.text;
       own = own';
       ends = end;

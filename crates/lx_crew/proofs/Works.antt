@@ -1,10 +1,11 @@
 -- Lists of works and of places.
 use Rattle.lx_crew.proofs.Imports.{true≢false, ◌==◌, true, false, ◌≡◌, ℕ, zero, suc, ◌+◌, ◌<◌, ◌≤◌, List, [], ◌∷◌}
 use Rattle.lx_crew.proofs.Imports.{◌++◌, length, map, set, get_or, slice_get, Option, Some, None, IsSome, sym, refl, ap, ◌∙◌, subst, inl, inr}
-use Rattle.lx_crew.proofs.Imports.{take, drop, append_assoc, map-append, take-append_seam, append-nil, arith, AllByRecursion, AllZip, All, ℕ_discrete}
+use Rattle.lx_crew.proofs.Imports.{take, drop, append_assoc, map-append, append-nil, arith, AllByRecursion, AllZip, All, ℕ_discrete}
 use Rattle.lx_crew.proofs.Imports.{slice_get_read, slice_get-get_or, AllZip-long, Message, View, Operator, of_place, is_last, has_last}
 use Rattle.lx_crew.proofs.Imports.{HaveLines, engine_view, operator_view, HasSentLines, EachAt}
 use Rattle.lx_crew.proofs.Imports.{HasRunOperator, Hired, HasSentNothing, Works, Retired, owned, filter-append, view, Pass, IsSamePass, ToldBySource}
+use Rattle.std.proofs.lemmas.List.{take_at}
 use Rattle.lx_work.proofs.Places.{get_last, get_left, get-set_cases, get-set_other, get-set_same, zip_at}
 use Rattle.lx_crew.proofs.Lists.{none_both, text_not_last}
 
@@ -114,14 +115,11 @@ ready_all Its places xs h = all_at (λ (w : Operator _). HasSentNothing w) (Hire
 
 pub works_back : {A : Type 0} (R : A → A → Type 0) (xs ys : List A) (n : ℕ) → n ≡ length xs → AllZip R xs ys
     → take n (ys ++ drop (length ys) xs) ≡ ys
-works_back R xs ys n is z =
-    ap (λ m. take m (ys ++ drop (length ys) xs)) (is ∙ sym (AllZip-long R xs ys z)) ∙ take-append_seam ys (drop (length ys) xs)
+works_back R xs ys n is z = take_at ys (drop (length ys) xs) n (AllZip-long R xs ys z ∙ sym is)
 
 pub after_release : {S : Type 0} (v e : View) (n : ℕ) (popped : List Message) (ws ys : List (Operator S)) → ws ≡ ys
     → e ≡ engine_view n popped [] → v ≡ record e { kept = map owned ws ++ e.kept } → v ≡ engine_view n popped (map owned ys ++ [])
-after_release v e n popped ws ys same h is = is ∙
-    (ap (λ (u : View). record u { kept = map owned ws ++ u.kept }) h ∙ ap
-    (λ (l : List (Operator _)). engine_view n popped (map owned l ++ [])) same)
+after_release v e n popped ws ys same h is = rw (same, h) at is
 
 pub carries : (q : _) (p p' : Pass Message View) → IsSamePass p p' → (p.table_id ≡ q) × (p.me.1 ≡ []) → (p'.table_id ≡ q) × (p'.me.1 ≡ [])
 carries q p p' same h = (same.0 ∙ h.0, same.2 ∙ h.1)

@@ -1,5 +1,5 @@
 -- The line that `check` writes, in two pieces.
-use Rattle.lx_desk.proofs.Imports.{◌≡◌, List, ℕ, [], ◌∷◌, ◌++◌, length, append_assoc, ap, ◌∙◌, codes, decimal, Reading, check_text}
+use Rattle.lx_desk.proofs.Imports.{◌≡◌, List, ℕ, [], ◌∷◌, ◌++◌, length, append_assoc, codes, decimal, Reading, check_text}
 
 shape : (a b c d : List ℕ)
     → (codes "show cues " ++ (a ++ (codes " channels " ++ b))) ++ (codes " skipped " ++ (c ++ (codes " first " ++ (d ++ 10 ∷ []))))
@@ -8,19 +8,9 @@ shape : (a b c d : List ℕ)
     []
 shape a b c d = simp append_assoc
 
-size_is : (r : Reading)
-    → (codes "show cues " ++ (decimal (length r.show.cues) ++ (codes " channels " ++ decimal r.show.channels))) ++
-    (codes " skipped " ++ (decimal r.skipped ++ (codes " first " ++ (decimal r.first_skipped ++ 10 ∷ []))))
-    ≡ check_text r
-size_is r = shape (decimal (length r.show.cues)) (decimal r.show.channels) (decimal r.skipped) (decimal r.first_skipped)
-
 pub size_at : (cues channels : ℕ) (r : Reading) → cues ≡ length r.show.cues → channels ≡ r.show.channels
     → (codes "show cues " ++ (decimal cues ++ (codes " channels " ++ decimal channels))) ++
     (codes " skipped " ++ (decimal r.skipped ++ (codes " first " ++ (decimal r.first_skipped ++ 10 ∷ []))))
     ≡ check_text r
-size_at cues channels r counts width =
-    ap (λ k. (codes "show cues " ++ (decimal k ++ (codes " channels " ++ decimal channels))) ++
-    (codes " skipped " ++ (decimal r.skipped ++ (codes " first " ++ (decimal r.first_skipped ++ 10 ∷ []))))) counts
-    ∙ ap (λ k. (codes "show cues " ++ (decimal (length r.show.cues) ++ (codes " channels " ++ decimal k))) ++
-    (codes " skipped " ++ (decimal r.skipped ++ (codes " first " ++ (decimal r.first_skipped ++ 10 ∷ []))))) width
-    ∙ size_is r
+size_at cues channels r counts width = rw (counts, width)
+    (shape (decimal (length r.show.cues)) (decimal r.show.channels) (decimal r.skipped) (decimal r.first_skipped))

@@ -1,9 +1,9 @@
 -- How a run of several operators ended, from its show and its crew.
 use Rattle.lx_desk.proofs.Imports.{◌≡◌, inl, inr, ℕ, Option, Result, Ok, Err, IfSome, List, refl, sym}
-use Rattle.lx_desk.proofs.Imports.{subst, arith, Rose, AppendsFront, Lines, unread, Form, Crew, TextFault}
+use Rattle.lx_desk.proofs.Imports.{subst, arith, Rose, Lines, unread, Form, Crew, TextFault}
 use Rattle.lx_desk.proofs.Imports.{fault_text, Reading, reads, Loaded, ShowFault, reading_of, HasRead, Status}
 use Rattle.lx_desk.proofs.Imports.{RefusedBy, EndsJob, ServesOrWants, HasCrewEnded, WritesFirstLines, WritesCrewFront}
-use Rattle.lx_desk.proofs.Imports.{Bool, false, HasCauseOf, OperatorFailed, HasCrewCause, ToldBySource}
+use Rattle.lx_desk.proofs.Imports.{◌∙◌, ap, same_Some, Some, Bool, false, EndsScript, HasCauseOf, NoOperatorFailed, OperatorFailed, HasCrewCause, ToldBySource}
 use Rattle.lx_desk.specs.declared.desk.Status.TheVariants as status
 use Rattle.lx_desk.proofs.Inputs.{IfSome_then, Says, all_known, both_known, crew_tells, front_nothing, means_of, over_all, read_fits, refusal_ended}
 use Rattle.lx_desk.proofs.Inputs.{refusal_isnt_ok, show_over, unwritten_as}
@@ -47,8 +47,7 @@ module _ (form : Form) (count : ℕ) where
   pub nothing_front : {S : Type 0} (told : ToldBySource S) (h h' : Option (List ℕ)) (operators : List (Option S))
       (r : Result Reading TextFault) → h' ≡ h → WritesCrewFront told count operators h h' r
   nothing_front told h h' operators (Ok reading) kept = no_lines told reading.show count operators h h' kept
-  nothing_front told h h' operators (Err fault) kept =
-      subst (λ (v : Option (List ℕ)). AppendsFront h v (fault_text fault)) (sym kept) (front_nothing h (fault_text fault))
+  nothing_front told h h' operators (Err fault) kept = rw kept (front_nothing h (fault_text fault))
 
   pub refused_front : {I S : Type 0} (told_in : ToldBySource I) (told : ToldBySource S) (a b : Lines I)
       {h h' : Option (List ℕ)} (operators : List (Option S)) {fault : ShowFault} {s : Status}
@@ -63,17 +62,22 @@ module _ (form : Form) (count : ℕ) where
 -- each fault of the outside has its cause, where the show was read
 pub served_cause : {S : Type 0} (told : ToldBySource S) (s : Status) (reads reads' writes writes' count : ℕ)
     (operators operators' : List (Option S)) → reads' ≡ reads
-    → (s ≡ status.ReadFault → OperatorFailed told count operators operators') → (s ≡ status.WriteFault → Rose writes writes')
+    → EndsScript s → (s ≡ status.ReadFault → OperatorFailed told count operators operators')
+    → (s ≡ status.Ok → NoOperatorFailed told count operators operators') → (s ≡ status.WriteFault → Rose writes writes')
     → HasCrewCause told s reads reads' writes writes' count operators operators'
-served_cause told status.ReadFault reads reads' writes writes' count operators operators' kept read write = inr (kept, read refl)
-served_cause told status.WriteFault reads reads' writes writes' count operators operators' kept read write = (write refl, kept)
-served_cause told status.Memory reads reads' writes writes' count operators operators' kept read write = kept
-served_cause told status.InputTooLong reads reads' writes writes' count operators operators' kept read write = kept
-served_cause told s reads reads' writes writes' count operators operators' kept read write = tt
+served_cause told status.ReadFault reads reads' writes writes' count operators operators' kept works read none write = inr (kept, read refl)
+served_cause told status.WriteFault reads reads' writes writes' count operators operators' kept works read none write = (write refl, kept)
+served_cause told status.Memory reads reads' writes writes' count operators operators' kept works read none write = kept
+served_cause told status.InputTooLong reads reads' writes writes' count operators operators' kept works read none write = kept
+served_cause told status.Ok reads reads' writes writes' count operators operators' kept works read none write = none refl
+served_cause told s reads reads' writes writes' count operators operators' kept works read none write = absurd works
 
 -- and where it wasn't, as another job has it
 pub refused_cause : {S : Type 0} (told : ToldBySource S) (s : Status) (reads reads' writes writes' count : ℕ) (operators : List (Option S))
     → HasCauseOf s reads reads' writes writes' → HasCrewCause told s reads reads' writes writes' count operators operators
 refused_cause told status.ReadFault reads reads' writes writes' count operators c = inl (c.0, refl)
 refused_cause told status.InputTooLong reads reads' writes writes' count operators c = c.0
+refused_cause told status.ShowRefused reads reads' writes writes' count operators c = refl
+refused_cause told status.Ok reads reads' writes writes' count operators c =
+    λ place start new within at after. ap told.faults (same_Some new start (same_Some (Some new) (Some start) (sym after ∙ at)))
 refused_cause told s reads reads' writes writes' count operators c = c

@@ -1,9 +1,9 @@
 -- What the status of a crew says of its output and of its operators.
-use Rattle.lx_desk.proofs.Imports.{◌≡◌, inl, inr, ℕ, zero, suc, ◌+◌, ◌<◌, ◌≤◌, true, false, Option, Some, None, IfSome, IsSome}
+use Rattle.lx_desk.proofs.Imports.{◌≡◌, ◌≢◌, inl, inr, ℕ, zero, suc, ◌+◌, ◌<◌, ◌≤◌, true, false, Option, Some, None, IfSome, IsSome}
 use Rattle.lx_desk.proofs.Imports.{List, [], ◌∷◌, ◌++◌, length, take, drop, slice_get, refl, sym, ap, ◌∙◌, subst, arith, take_all}
 use Rattle.lx_desk.proofs.Imports.{length-append, length-drop, AllByRecursion, position_or_len, same_Some, slice_get_within, SinkFault, Rose}
-use Rattle.lx_desk.proofs.Imports.{AppendsFront, lines_of, Show, opened, Kept, ends_script, lines_wanted, Tally, OperatorFault, EachAt, Status, IsLowest}
-use Rattle.lx_desk.proofs.Imports.{WritesTranscript, WritesLines, Serves, WritesFirstLines, KeepsPlaces, OperatorFailed, TellsOperators, TellsCrew, Finishes}
+use Rattle.lx_desk.proofs.Imports.{lines_of, Show, opened, Kept, ends_script, lines_wanted, Tally, OperatorFault, EachAt, Status, IsLowest}
+use Rattle.lx_desk.proofs.Imports.{WritesTranscript, WritesLines, Serves, WritesFirstLines, KeepsPlaces, NoOperatorFailed, OperatorFailed, TellsOperators, TellsCrew, Finishes}
 use Rattle.lx_desk.proofs.Imports.{◌⊎◌, ByMemory, ServesOver, stood_since, Bool, EndsScript, HandsOn, ToldBySink, ToldBySource}
 use Rattle.std.specs.Io.KnownBytes.{Appends}
 use Rattle.std.proofs.KnownBytes.{Appends-nil}
@@ -21,12 +21,12 @@ use Rattle.lx_desk.proofs.Inputs.{whole_front, front_nothing}
 use Rattle.lx_desk.proofs.Finishing.{all_done, not_done}
 use Rattle.lx_desk.proofs.PlacesInUse.{InUse, at_back, at_used, drop_back, get_take}
 
--- a read that failed is that of the lowest operator with a fault
-lowest_failed : (output : Option SinkFault) (told : List (Option OperatorFault)) (s : Status) → TellsCrew output told s
-    → s ≡ status.ReadFault → IsLowest told ends.ReadFault
-lowest_failed None told s tells is = subst (λ (t : Status). TellsOperators told t) is tells
-lowest_failed (Some sinks.Failed) told s tells is = let bad : status.WriteFault ≡ status.ReadFault = sym tells ∙ is in absurd cc
-lowest_failed (Some sinks.Memory) told s tells is = let bad : status.Memory ≡ status.ReadFault = sym tells ∙ is in absurd cc
+-- a status that no fault of the output has is the operators'
+operators_tell : (output : Option SinkFault) (told : List (Option OperatorFault)) {s : Status} (t : Status) → TellsCrew output told s
+    → s ≡ t → status.WriteFault ≢ t → status.Memory ≢ t → TellsOperators told t
+operators_tell None told t tells is write memory = subst (λ (u : Status). TellsOperators told u) is tells
+operators_tell (Some sinks.Failed) told t tells is write memory = absurd (write (sym tells ∙ is))
+operators_tell (Some sinks.Memory) told t tells is write memory = absurd (memory (sym tells ∙ is))
 
 -- a list of places that all have a source
 pub there : {S : Type 0} (places : List (Option S)) → EachAt (λ k source. IsSome source) places → (place : ℕ) → place < length places
@@ -98,6 +98,13 @@ module _ {S K : Type 0} {ample : Bool} {told_in : ToldBySource S} {told_out : To
     written = written output s c.written tells;
   }
 
+  none_failed : (s : Status) → TellsCrew output told s → s ≡ status.Ok → NoOperatorFailed told_in count operators (used' ++ rest)
+  none_failed s tells ok place start new within at after =
+      let b = back within at in
+      let is : b.source ≡ new = same_Some b.source new (same_Some (Some b.source) (Some new) (sym b.place_is ∙ after)) in
+      let none : b.fault ≡ None = operators_tell output told status.Ok tells ok (λ odd. cc) (λ odd. cc) place b.fault b.fault_is in
+      sym (ap told_in.faults is) ∙ b.ended.kept (λ odd. let bad : None ≡ Some ends.ReadFault = sym none ∙ odd in absurd cc)
+
   module _ (full : EachAt (λ k source. IsSome source) operators) (most : count ≤ length operators) where
     full_used : EachAt (λ k source. IsSome source) used'
     full_used k source at =
@@ -120,7 +127,7 @@ module _ {S K : Type 0} {ample : Bool} {told_in : ToldBySource S} {told_out : To
 
     operator_failed : (s : Status) → TellsCrew output told s → s ≡ status.ReadFault → OperatorFailed told_in count operators (used' ++ rest)
     operator_failed s tells failed =
-        let lowest = lowest_failed output told s tells failed in
+        let lowest = operators_tell output told status.ReadFault tells failed (λ odd. cc) (λ odd. cc) in
         let within : lowest.place < count =
         (let n = i.count in let lt = c.others lowest.place ends.ReadFault lowest.at in omega (arith, lt, n)) in
         let from = there operators full lowest.place (omega (arith, within, most)) in
@@ -240,9 +247,8 @@ no_lines told show count operators held held' kept = record {
   no_more = λ operator past. refl;
   failures = [];
   allows = tt;
-  text = subst (λ (v : Option (List ℕ)). AppendsFront held v (crew_text (opened show) [] [])) (sym kept)
-      (front_nothing held (crew_text (opened show) [] []));
-  earlier = earlier_written show [] [] held held' (subst (λ (v : Option (List ℕ)). Appends held v []) (sym kept) (Appends-nil held));
+  text = rw kept (front_nothing held (crew_text (opened show) [] []));
+  earlier = earlier_written show [] [] held held' (rw kept (Appends-nil held));
 }
 
 -- What a crew's status says of the output and of its counts.
@@ -304,6 +310,7 @@ serves_over {first} before after {show} used' {output} {told} {s} i most full op
           inr (serves show i (crewed ample (λ sure. stood_since first before after opened_later (stood sure))) s tells);
       prefix = served_front s (serves show i any s tells);
       read = operator_failed show i any full most s tells;
+      none_failed = none_failed show i any s tells;
       write = t.failed;
       finished = t.finished;
       memory = λ memory. inr (t.short memory);
@@ -325,6 +332,7 @@ serves_none {told_in} {told_out} {show} {count} {operators} {sink} same kept ful
   served = λ ample stood. inl (refl, (refl, refl));
   prefix = no_lines told_in show count operators (told_out.holds sink) (told_out.holds sink) refl;
   read = λ is. absurd cc;
+  none_failed = λ is. absurd cc;
   write = λ is. absurd cc;
   finished = λ reads. not_done (λ done. done) (λ other. other);
   memory = λ is. inl refl;

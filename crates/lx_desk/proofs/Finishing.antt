@@ -1,12 +1,9 @@
 -- What the status of a job says of its end, of the counts and of what is kept back, from the ends of its calls.
-use Rattle.lx_desk.proofs.Imports.{◌≡◌, ◌⊎◌, inl, inr, ℕ, Result, Ok, Err, Option, List, [], ◌∙◌, sym, ap, ◌≢◌, Lines, ShowFault, append-nil}
+use Rattle.lx_desk.proofs.Imports.{◌≡◌, ◌⊎◌, inl, inr, ℕ, Result, Ok, Err, Option, List, [], ◌∙◌, sym, ap, ◌≢◌, Lines, ShowFault}
 use Rattle.lx_desk.proofs.Imports.{SessionFault, Tally, HasSessionCause, Status, status_for, status_kept, IsDone, IsOfInput, Finishes}
 use Rattle.lx_desk.proofs.Imports.{ToldBySink, ToldBySource, Rose, ◌≤◌, arith, refl, subst, HandsOnReplies, Accounts, HasLiveCause}
-use Rattle.lx_desk.proofs.Imports.{fault_text, Puts, Puts-is, Puts-then, Refuses, SinkFault, status_of_sink, Tells, TextFault, EndsScript, HasCauseOf}
-use Rattle.lx_desk.proofs.Imports.{AppendsFront-from, source_faults}
-use Rattle.std.specs.Io.KnownBytes.{Keeps}
-use Rattle.std.proofs.KnownBytes.{Appends-nil, Appends-kept}
-use Rattle.lx_io.specs.Puts.{HasSinkCause}
+use Rattle.lx_desk.proofs.Imports.{fault_text, Puts, Refuses, SinkFault, status_of_sink, Tells, TextFault, EndsScript, HasCauseOf}
+use Rattle.lx_desk.proofs.Imports.{source_faults}
 use Rattle.lx_io.specs.declared.sink.SinkFault.TheVariants as sinks
 use Rattle.lx_reader.specs.declared.fault.ShowFault.TheVariants as shows
 use Rattle.lx_session.specs.declared.fault.SessionFault.TheVariants as faults
@@ -225,25 +222,6 @@ tells_none {told} {text} {output} done later rose = record {
   accounts = λ reads. none_accounts later rose;
 }
 
--- a text that was put, and the flush behind it
-kept_puts : {K : Type 0} (told : ToldBySink K) {b c : K} (r : Result (Unit {0}) SinkFault) → Keeps (told.holds b) (told.holds c)
-    → HasSinkCause told b c r → Puts told b c r []
-kept_puts told {b} {c} (Ok done) kept cause = record {
-  whole = Appends-kept (told.holds b) (told.holds b) (told.holds c) [] (Appends-nil (told.holds b)) kept;
-  part = tt;
-  cause = cause;
-}
-kept_puts told {b} {c} (Err fault) kept cause = record {
-  whole = tt;
-  part = AppendsFront-from (told.holds b) (told.holds c) [] 0
-      (Appends-kept (told.holds b) (told.holds b) (told.holds c) [] (Appends-nil (told.holds b)) kept);
-  cause = cause;
-}
-
-pub flushed : {K : Type 0} (told : ToldBySink K) {a b c : K} {r : Result (Unit {0}) SinkFault} {text : List ℕ}
-    → Puts {T = Unit {0}} told a b (Ok tt) text → Keeps (told.holds b) (told.holds c) → HasSinkCause told b c r → Puts told a c r text
-flushed told {r} {text} put kept cause = Puts-is (Puts-then put (kept_puts told r kept cause)) (append-nil text)
-
 -- The line of a refused show.
 kinds_cut : {s : Status} {P : Type 0} → (s ≡ status.ShowRefused) ⊎ ((s ≡ status.WriteFault) ⊎ (s ≡ status.Memory))
     → (s ≡ status.ReadFault) ⊎ (s ≡ status.InputTooLong) → P
@@ -312,6 +290,8 @@ module _ {K : Type 0} {told : ToldBySink K} {fault : ShowFault} {output output' 
 
 -- what has its cause as another job has it as a live run
 pub as_live_cause : {K : Type 0} (told : ToldBySink K) (s : Status) (reads reads' writes writes' : ℕ) (outlets outlets' : List (Option K))
-    → HasCauseOf s reads reads' writes writes' → HasLiveCause told s reads reads' writes writes' outlets outlets'
-as_live_cause told status.WriteFault reads reads' writes writes' outlets outlets' c = (inl c.0, c.1)
-as_live_cause told s reads reads' writes writes' outlets outlets' c = c
+    → (s ≡ status.ShowRefused → outlets' ≡ outlets) → HasCauseOf s reads reads' writes writes'
+    → HasLiveCause told s reads reads' writes writes' outlets outlets'
+as_live_cause told status.WriteFault reads reads' writes writes' outlets outlets' kept c = (inl c.0, c.1)
+as_live_cause told status.ShowRefused reads reads' writes writes' outlets outlets' kept c = kept refl
+as_live_cause told s reads reads' writes writes' outlets outlets' kept c = c

@@ -7,9 +7,9 @@ pub use Rattle.lx_base.specs.Places.{EachAt}
 pub use Rattle.lx_base.specs.declared.TheConstants.{INPUT_BYTES, UNDO_DEPTH}
 pub use Rattle.lx_console.specs.ConsoleMeaning.{StandsFor}
 pub use Rattle.lx_crew.specs.declared.fault.OperatorFault.{OperatorFault}
-pub use Rattle.lx_desk.specs.Crew.{HandsOn, HasCrewCause, HasCrewEnded, IsLowest, KeepsPlaces, OperatorFailed, Serves, ServesOrWants, ServesOver, TellsCrew}
+pub use Rattle.lx_desk.specs.Crew.{HandsOn, HasCrewCause, HasCrewEnded, IsLowest, KeepsPlaces, NoOperatorFailed, OperatorFailed, Serves, ServesOrWants, ServesOver, TellsCrew}
 pub use Rattle.lx_desk.specs.Crew.{TellsOperators, WritesCrewFront, WritesFirstLines, WritesLines, WritesTranscript}
-pub use Rattle.lx_desk.specs.Endings.{AnswersWords, at_once, EndsJob, EndsScript, HasCauseOf, HasEnded, HasEndedBy, HasPlayed}
+pub use Rattle.lx_desk.specs.Endings.{AnswersJob, at_once, EndsJob, EndsScript, HasCauseOf, HasEnded, HasEndedBy, HasPlayed}
 pub use Rattle.lx_desk.specs.Done.{Accounts, Does, Refuses, Tells}
 pub use Rattle.lx_desk.specs.Faults.{status_for, status_of_sink}
 pub use Rattle.lx_desk.specs.Finished.{Finishes, HasWanted, IsDone, IsOfInput}

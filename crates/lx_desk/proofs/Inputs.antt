@@ -4,9 +4,9 @@ use Rattle.lx_desk.proofs.Imports.{None, Result, Ok, Err, IfSome, IsErr, IsOk, L
 use Rattle.lx_desk.proofs.Imports.{arith, length-append, append-nil, append_assoc, take_all, Appends, IsAtEnd, INPUT_BYTES, AppendsFront, AppendsFront-from}
 use Rattle.lx_desk.proofs.Imports.{Lines, LinesBetween, unread, first_lines-more, first_lines-longer, Form, TextFault, lines_of, Reading, reads, script_of}
 use Rattle.lx_desk.proofs.Imports.{lines_read, HasNoFeed, feeds, first_lines, answering_of, opening_of, script_session, first_replies, input_lines_wanted}
-use Rattle.lx_desk.proofs.Imports.{input_wanted, ScriptAllows, over_show, fault_text, Answering, whole_session, session_after, lines_wanted}
+use Rattle.lx_desk.proofs.Imports.{input_wanted, over_show, fault_text, Answering, whole_session, session_after, lines_wanted}
 use Rattle.lx_desk.proofs.Imports.{bytes_wanted, Loaded, ShowFault, reading_of, HasRead, OfText, CutShort, Status, Job, Check, Crew, Sheet, Script, ScriptKind}
-use Rattle.lx_desk.proofs.Imports.{Allows, check_text, sheet_text, show_of, output_of, wanted_of, show_wanted, WritesAll, WritesTaken}
+use Rattle.lx_desk.proofs.Imports.{check_text, sheet_text, show_of, output_of, wanted_of, show_wanted, WritesAll, WritesTaken}
 use Rattle.lx_desk.proofs.Imports.{RepliesToTaken, NothingOfCut, AnswersScript, AnswersInFront, AnswersTaken, RefusedBy, RefusesText, status_kept, ToldBySource}
 use Rattle.lx_desk.proofs.Imports.{Bool, WritesFront, JobFailures, ScriptFailures, HasPlayed, HasEndedBy}
 use Rattle.lx_spec.specs.CutInput.{CutOff}
@@ -130,8 +130,7 @@ module _ {form : Form} {x y : List ℕ} {taken : ℕ} {reading : Reading} (v : I
   pub allowed : (ample : Bool) (kind : ScriptKind) (failures : List (Option ℕ))
       → ScriptFailures ample (answering_of kind) (opening_of kind reading.show) (lines_of y) failures → JobFailures ample (Script kind form) x failures
   allowed true kind failures none = none
-  allowed false kind failures allows = subst (λ r. ScriptAllows kind x failures r) (sym v.read)
-      (subst (λ ls. Allows (answering_of kind) (opening_of kind reading.show) ls failures) (sym v.script) allows)
+  allowed false kind failures allows = rw (v.read, v.script) allows
 
   whole_at : {h h' : Option (List ℕ)} (ample : Bool) (kind : ScriptKind)
       → AnswersScript ample (answering_of kind) (opening_of kind reading.show) (lines_of y) h h' → WritesAll ample (Script kind form) x h h'

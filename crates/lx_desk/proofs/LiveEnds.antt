@@ -1,6 +1,6 @@
 -- How a live run ended, from its show and its script.
-use Rattle.lx_desk.proofs.Imports.{◌≡◌, ◌⊎◌, inl, inr, true, false, ℕ, ◌+◌, ◌-◌, ◌≤◌, Option, Result, Ok}
-use Rattle.lx_desk.proofs.Imports.{Err, IsOk, IfSome, List, length, refl, sym, subst, arith}
+use Rattle.lx_desk.proofs.Imports.{◌≡◌, ◌⊎◌, inl, inr, true, false, ℕ, ◌+◌, ◌-◌, ◌≤◌, Option, Ok}
+use Rattle.lx_desk.proofs.Imports.{Err, IsOk, IfSome, List, length, refl, arith}
 use Rattle.lx_desk.proofs.Imports.{INPUT_BYTES, SinkFault, Rose, Lines, unread, Form}
 use Rattle.lx_desk.proofs.Imports.{TextFault, desk_lawful, front_of_whole, Script, Live, lines_of, opened, Reading, reads}
 use Rattle.lx_desk.proofs.Imports.{script_of, lines_read, begin_at}
@@ -9,8 +9,7 @@ use Rattle.lx_desk.proofs.Imports.{WritesPrefix, RefusedBy, HasEnded, PlaysScrip
 use Rattle.lx_desk.proofs.Imports.{AmpleMemory, PlaysInFront, PlaysTaken, HasPlayedLive, LivesInFront, LivesTaken, HasLived, PlaysToEnd, LivesToEnd}
 use Rattle.lx_desk.proofs.Imports.{DecidesInOrder, HasWanted, ToldBySink, ToldBySource}
 use Rattle.lx_desk.specs.declared.desk.Status.TheVariants as status
-use Rattle.lx_desk.proofs.Imports.{Check, IsErr, ◌≢◌}
-use Rattle.lx_desk.specs.Live.{NoneRose}
+use Rattle.lx_desk.proofs.Imports.{Check, ◌≢◌}
 use Rattle.lx_desk.proofs.Inputs.{IfSome_then, IsRead, Says, all_known, both_known, check_tells, cut_from, front_at, if_both, kept_is, means_of, over_all, over_loaded}
 use Rattle.lx_desk.proofs.Inputs.{refusal_ended, refusal_isnt_ok, script_over, short_of, show_over, taken_at, taken_is, unwritten_as, wanted_read}
 use Rattle.lx_desk.proofs.AnyFailures.{each_allowed}
@@ -77,7 +76,7 @@ module _ {form : Form} {x y : List ℕ} {taken : ℕ} {reading : Reading} (v : I
   ]
   has_lived left s p = absurd p
 
-  -- and in which order its faults are told
+  -- where it came to its end
   lives_to : {Told : List (Option SinkFault) → ℕ → Type 0} → PlaysToEnd ample Told told reading.show universes (lines_of y) h h' outlets outlets'
       × (taken + length (bytes_wanted y) ≤ INPUT_BYTES) → LivesToEnd ample Told told universes form x h h' outlets outlets'
   lives_to e = record {
@@ -87,20 +86,14 @@ module _ {form : Form} {x y : List ℕ} {taken : ℕ} {reading : Reading} (v : I
     within = let w = e.1 in omega (arith, wanted_read v, w);
   }
 
-  order_on : {O : Type 0} (told_out : ToldBySink O) (output output' : O) (s : Status) (reads reads' reads'' : ℕ) → reads' ≡ reads
-      → DecidesInOrder s reads' reads'' told_out output output' outlets outlets' (λ Told. PlaysToEnd ample Told told reading.show universes
-      (lines_of y) h h' outlets outlets' × (taken + length (bytes_wanted y) ≤ INPUT_BYTES))
-      → DecidesInOrder s reads reads'' told_out output output' outlets outlets' (λ Told. LivesToEnd ample Told told universes form x h h' outlets
-      outlets')
-  order_on told_out output output' status.WriteFault reads reads' reads'' same p = elim p [
-    | inl failed ↦ inl failed
-    | inr q ↦ inr (subst (λ (k : ℕ). NoneRose k reads'' told_out output output') same q.0, lives_to q.1)
-  ]
-  order_on told_out output output' status.Memory reads reads' reads'' same p = elim p [
-    | inl wanted ↦ inl wanted
-    | inr q ↦ inr (subst (λ (k : ℕ). NoneRose k reads'' told_out output output') same q.0, lives_to q.1)
-  ]
-  order_on told_out output output' s reads reads' reads'' same p = tt
+-- In which order the faults of a live run are told, where what is said of its end is said in other words.
+order_as : {O K : Type 0} {Ends Other : (List (Option SinkFault) → ℕ → Type 0) → Type 0} (s : Status) (reads reads' : ℕ) (told : ToldBySink O)
+    (output output' : O) (outlets outlets' : List (Option K)) → ((Told : List (Option SinkFault) → ℕ → Type 0) → Ends Told → Other Told)
+    → DecidesInOrder s reads reads' told output output' outlets outlets' Ends
+    → DecidesInOrder s reads reads' told output output' outlets outlets' Other
+order_as status.WriteFault reads reads' told output output' outlets outlets' says p = elim p [ inl failed ↦ inl failed | inr q ↦ inr (q.0, says _ q.1) ]
+order_as status.Memory reads reads' told output output' outlets outlets' says p = elim p [ inl wanted ↦ inl wanted | inr q ↦ inr (q.0, says _ q.1) ]
+order_as s reads reads' told output output' outlets outlets' says p = tt
 
 -- The same from the lines before the show and behind it.
 module _ {form : Form} {S : Type 0} {told_in : ToldBySource S} {a b : Lines S} {loaded : Loaded} (r : HasRead told_in a b form loaded)
@@ -111,17 +104,20 @@ module _ {form : Form} {S : Type 0} {told_in : ToldBySource S} {a b : Lines S} {
       → IfSome (unread told_in a) (λ x. HasLived ample s told universes form x rest h h' outlets outlets')
   live_ended rest p = over_loaded r none p (λ x y v q. has_lived v ample told universes h h' outlets outlets' rest s q)
 
-  pub live_order : {O : Type 0} (told_out : ToldBySink O) (output output' : O) (reads reads' reads'' : ℕ) → reads' ≡ reads
-      → IfSome (unread told_in b) (λ y. DecidesInOrder s reads' reads'' told_out output output' outlets outlets' (λ Told. PlaysToEnd ample Told
+  pub live_order : {O : Type 0} (told_out : ToldBySink O) (output output' : O) (reads reads' : ℕ)
+      → DecidesInOrder s reads reads' told_out output output' outlets outlets' (λ Told. IfSome (unread told_in b) (λ y. PlaysToEnd ample Told
       told loaded.show universes (lines_of y) h h' outlets outlets' × (b.taken + length (bytes_wanted y) ≤ INPUT_BYTES)))
-      → IfSome (unread told_in a) (λ x. DecidesInOrder s reads reads'' told_out output output' outlets outlets' (λ Told. LivesToEnd ample Told
+      → DecidesInOrder s reads reads' told_out output output' outlets outlets' (λ Told. IfSome (unread told_in a) (λ x. LivesToEnd ample Told
       told universes form x h h' outlets outlets'))
-  live_order told_out output output' reads reads' reads'' same p = over_loaded r none p
-      (λ x y v q. order_on v ample told universes h h' outlets outlets' told_out output output' s reads reads' reads'' same q)
+  live_order told_out output output' reads reads' p = order_as s reads reads' told_out output output' outlets outlets' (λ Told e.
+      over_loaded r none e (λ x y v q. lives_to v ample told universes h h' outlets outlets' q)) p
 
 -- A show that isn't read: its text has a fault, or it couldn't be read, and then nothing was written, and no write failed.
 abbrev Unanswered : Form → (h h' : Option (List ℕ)) → Status → List ℕ → Type 0
 Unanswered form h h' s x = ((text : TextFault) × (reads form x ≡ Err text)) ⊎ ((h' ≡ h) × (s ≢ status.WriteFault))
+
+isnt_read : (form : Form) (x : List ℕ) (text : TextFault) → reads form x ≡ Err text → IsOk (reads form x) → ⊥
+isnt_read form x text is ok = let bad : false ≡ true = rw is at ok in absurd cc
 
 module _ {S K : Type 0} (ample : AmpleMemory) (form : Form) (universes : ℕ) (told_in : ToldBySource S) (told : ToldBySink K) (a b : Lines S)
     {h h' : Option (List ℕ)} (outlets : List (Option K)) {fault : ShowFault} where
@@ -132,26 +128,10 @@ module _ {S K : Type 0} (ample : AmpleMemory) (form : Form) (universes : ℕ) (t
   refused_at status.ShowRefused by x left e c u = (e, refl)
   refused_at status.ReadFault by x left e c u = (e, inl (refl, c))
   refused_at status.InputTooLong by x left e c u = (e, inl (refl, c.0))
-  refused_at status.WriteFault by x left e c u = (
-    e,
-    inl (
-      refl,
-      elim u [
-        | inl text ↦ subst (λ (r : Result Reading TextFault). IsErr r) (sym text.1) refl
-        | inr other ↦ absurd (other.1 refl)
-      ],
-    ),
-  )
-  refused_at status.Memory by x left e c u = (
-    e,
-    inl (
-      refl,
-      λ ok. elim u [
-        | inl text ↦ let bad : false ≡ true = subst (λ (r : Result Reading TextFault). IsOk r) text.1 ok in absurd cc
-        | inr other ↦ other.0
-      ],
-    ),
-  )
+  refused_at status.WriteFault by x left e c u =
+      (e, inl (refl, elim u [ inl text ↦ rw text.1 refl | inr other ↦ absurd (other.1 refl) ]))
+  refused_at status.Memory by x left e c u =
+      (e, inl (refl, λ ok. elim u [ inl text ↦ absurd (isnt_read form x text.0 text.1 ok) | inr other ↦ other.0 ]))
   refused_at s by x left e c u = absurd (refusal_ends by)
 
   pub refused_lived : (s : Status) → a.taken ≡ 0 → Says form told_in a b fault → RefusedBy h h' fault s

@@ -16,7 +16,7 @@ use Rattle.lx_io.specs.Causes.{one_more}
 use Rattle.lx_io.specs.declared.sink.SinkFault.TheVariants as sinks
 use Rattle.lx_session.specs.declared.fault.SessionFault.TheVariants as faults
 use Rattle.lx_workers.specs.Engines.{engine_answering, leaves_room}
-use Rattle.lx_workers.specs.LiveOutcome.{AreDelivered, HasPlayedScript}
+use Rattle.lx_workers.specs.LiveOutcome.{HasPlayedScript}
 use Rattle.lx_workers.specs.Places.{OutletIsBack}
 use Rattle.lx_desk.specs.declared.desk.Status.TheVariants as status
 use Rattle.lx_desk.proofs.Finishing.{all_done, as_live_cause, ends_script, has_cause, not_done, session_finishes, session_wants}
@@ -118,8 +118,7 @@ module _ {S O K : Type 0} (ample : AmpleMemory) {told_in : ToldBySource S} {told
       let d = p.outlets_are in
       record {
         results = results;
-        delivered = subst (λ (u : List (Option K)). AreDelivered told show u (take universes now) results p.published) i.front
-            (subst (λ (u : List (Option K)). AreDelivered told show used u results p.published) (sym (take_back i used' d.same_places)) d);
+        delivered = rw (← i.front, take_back i used' d.same_places) d;
         rest = drop_back i used' d.same_places;
       }
 
@@ -179,7 +178,8 @@ module _ {S O K : Type 0} (ample : AmpleMemory) {told_in : ToldBySource S} {told
     live_cause (Ok tally) status.WriteFault tells c = (inr (failed_at tells.0 tells.1), c.kept.0)
     live_cause (Ok tally) status.Memory tells c = c.kept.0
     live_cause (Ok tally) s tells c = absurd tells
-    live_cause (Err fault) s tells c = rw tells (as_live_cause told (status_for {A = Tally} (Err fault)) _ _ _ _ _ _ (has_cause (Err fault) c))
+    live_cause (Err fault) s tells c = rw tells (as_live_cause told (status_for {A = Tally} (Err fault)) _ _ _ _ _ _
+        (λ is. absurd (subst EndsScript is (ends_script (Err fault)))) (has_cause (Err fault) c))
 
     -- and memory that was wanted has it, too
     live_wanted : (before after writers writers' : ℕ) (r : Result Tally SessionFault) (s : Status) → TellsRun r results n s
@@ -302,9 +302,11 @@ module _ {S O K : Type 0} (ample : AmpleMemory) {told_in : ToldBySource S} {told
     live_at (Ok tally) s tells a limit = absurd tells
     live_at (Err fault) s tells a limit = rw tells (live_fault fault a limit)
 
-    -- and in which order its faults are told: the session's own comes first
+  -- and in which order its faults are told: the session's own comes first
+  module _ (sent : ample.versions ≡ true → n ≡ 0) where
     abbrev ToEnd : (List (Option SinkFault) → ℕ → Type 0) → Type 0
-    ToEnd Told = PlaysToEnd ample Told told show universes (lines_of bytes) h h' outlets now × (old.taken + length (bytes_wanted bytes) ≤ INPUT_BYTES)
+    ToEnd Told = IfSome (unread told_in old) (λ bytes. PlaysToEnd ample Told told show universes (lines_of bytes) h h' outlets now
+        × (old.taken + length (bytes_wanted bytes) ≤ INPUT_BYTES))
 
     session_order : (fault : SessionFault) → HasSessionCause {T = Tally} told_in told_out old new output output' (Err fault)
         → DecidesInOrder (status_for {A = Tally} (Err fault)) (source_faults told_in old) (source_faults told_in new) told_out output output' outlets
@@ -313,19 +315,21 @@ module _ {S O K : Type 0} (ample : AmpleMemory) {told_in : ToldBySource S} {told
     session_order faults.Memory c = inl (inr c.failed)
     session_order fault c = tt
 
-    order_at : (r : Result Tally SessionFault) (s : Status) → TellsRun r results n s → Answers bytes r → KeepsLimit old.taken bytes r
-        → HasSessionCause told_in told_out old new output output' r → HandsOnReplies r (told_out.back output')
+    order_at : (r : Result Tally SessionFault) (s : Status) → TellsRun r results n s → IfSome (unread told_in old) (λ bytes. Answers bytes r)
+        → IfSome (unread told_in old) (λ bytes. KeepsLimit old.taken bytes r) → HasSessionCause told_in told_out old new output output' r
+        → HandsOnReplies r (told_out.back output')
         → DecidesInOrder s (source_faults told_in old) (source_faults told_in new) told_out output output' outlets now ToEnd
-    order_at (Ok tally) status.WriteFault tells a limit c none = inr (
+    order_at (Ok tally) status.WriteFault tells answered limit c none = inr (
       record { reads_kept = c.kept.0; writes_kept = c.kept.1; wants_kept = c.kept.2; handed_on = none },
-      (to_end a tells, limit),
+      both_known (unread told_in old) answered limit (λ bytes a keeps. (to_end sent bytes a tells, keeps)),
     )
-    order_at (Ok tally) status.Memory tells a limit c none = inr (
+    order_at (Ok tally) status.Memory tells answered limit c none = inr (
       record { reads_kept = c.kept.0; writes_kept = c.kept.1; wants_kept = c.kept.2; handed_on = none },
-      (to_end a (subst (λ k. LacksMemory results k) p.unsent_is tells), limit),
+      both_known (unread told_in old) answered limit
+          (λ bytes a keeps. (to_end sent bytes a (subst (λ k. LacksMemory results k) p.unsent_is tells), keeps)),
     )
-    order_at (Ok tally) s tells a limit c none = tt
-    order_at (Err fault) s tells a limit c none = rw tells (session_order fault c)
+    order_at (Ok tally) s tells answered limit c none = tt
+    order_at (Err fault) s tells answered limit c none = rw tells (session_order fault c)
 
 -- Memory was short at the opening, and nothing was read or written.
 pub none_plays : {S O K : Type 0} {told_in : ToldBySource S} {told_out : ToldBySink O} {told : ToldBySink K} {before after writers writers' : ℕ}
@@ -338,7 +342,7 @@ none_plays {told_in} {lines} unread_on unwritten unplayed later writers_later sh
   finish = λ ok place start within at. absurd cc;
   ended = λ ample stood sent. all_known (unread told_in lines) _ (λ bytes. inl (refl, refl));
   cause = refl;
-  order = λ ample stood sent. all_known (unread told_in lines) _ (λ bytes. inl (inl (refl, refl)));
+  order = λ ample stood sent. inl (inl (refl, refl));
   finished = not_done (λ done. done) (λ other. other);
   wanted = λ is. inl short;
   heap_later = later;
@@ -370,8 +374,7 @@ run_plays {told_in} {first} {writers} {writers'} before after {show} {old} used'
       cause = live_cause any_memory i any most full session s tells cause;
       order = λ ample stood known.
           let p = played ample.edits (λ sure. stood_since first before after opened (stood sure)) in
-          both_known (unread told_in old) p.session_is limit
-          (λ bytes a keeps. order_at ample i p (λ sure. sent (known sure)) bytes session s tells a keeps cause none);
+          order_at ample i p (λ sure. sent (known sure)) session s tells p.session_is limit cause none;
       finished = run_finishes any_memory i any session s tells cause none;
       wanted = live_wanted any_memory i any most full first after writers writers' session s tells cause sent;
       heap_later = omega (arith, opened, held);

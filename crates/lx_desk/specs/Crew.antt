@@ -146,9 +146,15 @@ pub record OperatorFailed {S : Type 0} (told : ToldBySource S) (count : ℕ) (op
   pub after : slice_get operators' place ≡ Some (Some new)
   pub rose : Rose (told.faults start) (told.faults new)
 
+-- no read of an operator in use failed
+abbrev pub NoOperatorFailed : {S : Type 0} → ToldBySource S → ℕ → (operators operators' : List (Option S)) → Type 0
+NoOperatorFailed {S} told count operators operators' =
+    (place : ℕ) (start new : S) → place < count → slice_get operators place ≡ Some (Some start)
+    → slice_get operators' place ≡ Some (Some new) → told.faults new ≡ told.faults start
+
 -- ReadFault comes only where the count of failed reads of the input rose, and then no operator's source was read; or that of an operator in use
 -- did, and none of the input. WriteFault comes only where the output's count of failed writes rose. With it, with InputTooLong and with
--- Memory no read of the input failed.
+-- Memory no read of the input failed. With Ok no read of an operator in use failed, and of a refused show no operator's source was read.
 abbrev pub HasCrewCause : {S : Type 0} → ToldBySource S → Status → (reads reads' writes writes' : ℕ) → ℕ
     → (operators operators' : List (Option S))
     → Type 0
@@ -157,6 +163,8 @@ HasCrewCause told status.ReadFault reads reads' writes writes' count operators o
 HasCrewCause told status.WriteFault reads reads' writes writes' count operators operators' = Rose writes writes' × (reads' ≡ reads)
 HasCrewCause told status.InputTooLong reads reads' writes writes' count operators operators' = reads' ≡ reads
 HasCrewCause told status.Memory reads reads' writes writes' count operators operators' = reads' ≡ reads
+HasCrewCause told status.Ok reads reads' writes writes' count operators operators' = NoOperatorFailed told count operators operators'
+HasCrewCause told status.ShowRefused reads reads' writes writes' count operators operators' = operators' ≡ operators
 HasCrewCause told other reads reads' writes writes' count operators operators' = Unit {0}
 
 -- what the status tells: the fault of the output, else that of the lowest operator that has one
@@ -203,6 +211,7 @@ pub record ServesOver {S K : Type 0} (told : ToldBySource S) (told_out : ToldByS
       (told_out.holds output') s)
   pub prefix : WritesFirstLines told show count operators (told_out.holds output) (told_out.holds output')
   pub read : s ≡ status.ReadFault → OperatorFailed told count operators operators'
+  pub none_failed : s ≡ status.Ok → NoOperatorFailed told count operators operators'
   pub write : s ≡ status.WriteFault → Rose (told_out.faults output) (told_out.faults output')
   pub finished : (reads : ℕ) → Finishes reads reads told_out output output' s
   pub memory : HasWanted told_out output output' s

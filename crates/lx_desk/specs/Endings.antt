@@ -26,6 +26,11 @@ at_once (Some (Script kind form)) = if is_live kind then Some status.Live else N
 at_once (Some (Crew operators form)) = Some status.Live
 at_once (Some other) = None
 
+-- A job that has such a status is answered with it, and nothing is read or written; no other job is.
+pub record AnswersJob {I O : Type 0} (job : Job) (s : Status) (input input' : I) (output output' : O) : Type 0 where
+  pub at : IfSome (at_once (Some job)) (λ answer. (s ≡ answer) × ((input' ≡ input) × (output' ≡ output)))
+  pub only : (s ≡ status.Usage) ⊎ (s ≡ status.Live) → at_once (Some job) ≡ Some s
+
 -- Words that have such a status are answered with it, unless memory ran out, and then nothing is read or written; no other
 -- words are.
 pub record AnswersWords {I O : Type 0} (job : Option Job) (s : Status) (input input' : I) (output output' : O) : Type 0 where

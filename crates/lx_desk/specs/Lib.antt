@@ -9,3 +9,4 @@ pub mod ShowRefusal
 pub mod Live
 pub mod Crew
 pub mod Generator
+pub mod Imports

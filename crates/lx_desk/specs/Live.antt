@@ -274,7 +274,7 @@ WantsLive told_out told refusals refusals' writers writers' output output' outle
     s ≡ status.Memory → LiveRunsShort told_out told refusals refusals' writers writers' output output' outlets outlets'
 
 -- ReadFault comes only where the count of failed reads rose, and WriteFault only where the output's or an outlet's of failed writes did. A
--- fault of the input comes only where no write of the output failed, and any other only where no read did.
+-- fault of the input comes only where no write of the output failed, and any other only where no read did. Of a refused show no outlet is written.
 abbrev pub HasLiveCause : {K : Type 0} → ToldBySink K → Status → (reads reads' writes writes' : ℕ) → (outlets outlets' : List (Option K))
     → Type 0
 HasLiveCause told status.ReadFault reads reads' writes writes' outlets outlets' = Rose reads reads' × (writes' ≡ writes)
@@ -282,6 +282,7 @@ HasLiveCause told status.WriteFault reads reads' writes writes' outlets outlets'
     (Rose writes writes' ⊎ OutletFailed told outlets outlets') × (reads' ≡ reads)
 HasLiveCause told status.InputTooLong reads reads' writes writes' outlets outlets' = (reads' ≡ reads) × (writes' ≡ writes)
 HasLiveCause told status.Memory reads reads' writes writes' outlets outlets' = reads' ≡ reads
+HasLiveCause told status.ShowRefused reads reads' writes writes' outlets outlets' = outlets' ≡ outlets
 HasLiveCause told other reads reads' writes writes' outlets outlets' = Unit {0}
 
 -- a write failed in an outlet
@@ -326,7 +327,8 @@ pub record NoneRose {O : Type 0} (reads reads' : ℕ) (told : ToldBySink O) (out
   pub handed_on : told.back output' ≡ []
 
 -- The faults of a live run are told in this order. The session's own comes first, which is one of the input or of the output. Then, where
--- the session had none and came to its end, comes a write that failed in an outlet, and then that memory was short.
+-- the session had none and came to its end, comes a write that failed in an outlet, and then that memory was short. What the end is, is
+-- said of an input that tells its bytes; the order itself holds of every input.
 abbrev pub DecidesInOrder : {O K : Type 0} → Status → (reads reads' : ℕ) → (told : ToldBySink O) → (output output' : O)
     → (outlets outlets' : List (Option K)) → ((List (Option SinkFault) → ℕ → Type 0) → Type 0) → Type 0
 DecidesInOrder status.WriteFault reads reads' told output output' outlets outlets' ToEnd =
@@ -359,9 +361,10 @@ pub record PlaysLive {S O K : Type 0} (told_in : ToldBySource S) (told_out : Tol
       (told_out.holds output') outlets outlets'))
   pub cause : HasLiveCause told s (source_faults told_in old) (source_faults told_in new) (told_out.faults output) (told_out.faults output')
       outlets outlets'
-  pub order : ByLiveMemory refusals refusals' writers writers' (λ ample. IfSome (unread told_in old)
-      (λ bytes. DecidesInOrder s (source_faults told_in old) (source_faults told_in new) told_out output output' outlets outlets'
-      (λ Told. PlaysToEnd ample Told told show universes (lines_of bytes) (told_out.holds output) (told_out.holds output') outlets outlets'
+  pub order : ByLiveMemory refusals refusals' writers writers' (λ ample.
+      DecidesInOrder s (source_faults told_in old) (source_faults told_in new) told_out output output' outlets outlets'
+      (λ Told. IfSome (unread told_in old)
+      (λ bytes. PlaysToEnd ample Told told show universes (lines_of bytes) (told_out.holds output) (told_out.holds output') outlets outlets'
       × (bytes_taken old + length (bytes_wanted bytes) ≤ INPUT_BYTES))))
   pub finished : Finishes (source_faults told_in old) (source_faults told_in new) told_out output output' s
   pub wanted : WantsLive told_out told refusals refusals' writers writers' output output' outlets outlets' s

@@ -1,18 +1,16 @@
 //! The job `check`: one line about a show.
 #![tactic(auto, using(lx_io::proofs::Chain::puts))]
 
-ghost use Rattle.std.specs.Prelude.{◌++◌, ◌∷◌, [], codes, decimal, ℕ};
-ghost use Rattle.lx_io.specs.Puts.{Puts};
+ghost use Rattle.std.specs.Prelude.{◌++◌, ◌∷◌, [], codes, decimal};
+ghost use Rattle.lx_desk.specs.Imports.{Puts, check_text, reading_of, Does};
 ghost use Rattle.lx_spec.specs.declared.Job.TheVariants.{Check};
-ghost use Rattle.lx_spec.specs.CheckOutput.{check_text};
-ghost use Rattle.lx_reader.specs.Answer.{reading_of};
-ghost use Rattle.lx_desk.specs.Done.{Does, Tells};
 
 use crate::desk::Status;
 use crate::finish::finish;
+use crate::generator::{put_last, put_number};
 use crate::refuse::refuse;
 use lx_io::{Heap, Sink, SinkFault, Source, put_all};
-use lx_lex::{Lines, put_count, put_whole};
+use lx_lex::{Lines, put_count};
 use lx_reader::{Loaded, read_show_in};
 use lx_show::Form;
 
@@ -29,16 +27,9 @@ pub(crate) fn check<H: Heap, S: Source, K: Sink>(
 {
     let mut lines = Lines::new(input);
     match read_show_in(heap, &mut lines, form) {
-        Ok(loaded) => tell(&loaded, output),
+        Ok(loaded) => finish(put_size(&loaded, output), Status::Ok, output),
         Err(fault) => refuse(fault, output),
     }
-}
-
-/// Writes the line about a show that was read.
-fn tell<K: Sink>(loaded: &Loaded, output: &mut K) -> Status
-    ensures { (refusals : ℕ) → Tells K.Sink refusals refusals Status.Ok (check_text (reading_of loaded.now)) output.old output.new result }
-{
-    finish(put_size(loaded, output), Status::Ok, output)
 }
 
 /// Appends the line `show cues A channels B skipped C first D`.
@@ -56,8 +47,7 @@ fn put_counts<K: Sink>(cues: usize, channels: u32, output: &mut K) -> Result<(),
 {
     put_all(output, b"show cues ")?;
     put_count(cues as u64, output)?;
-    put_all(output, b" channels ")?;
-    put_whole(channels, output)
+    put_number(b" channels ", channels, output)
 }
 
 /// Appends how many lines were skipped, and which was the first.
@@ -65,9 +55,6 @@ fn put_skipped<K: Sink>(skipped: u32, first: u32, output: &mut K) -> Result<(), 
     ensures { Puts K.Sink output.old output.new result
         (codes " skipped " ++ (decimal skipped ++ (codes " first " ++ (decimal first ++ 10 ∷ [])))) }
 {
-    put_all(output, b" skipped ")?;
-    put_whole(skipped, output)?;
-    put_all(output, b" first ")?;
-    put_whole(first, output)?;
-    put_all(output, b"\n")
+    put_number(b" skipped ", skipped, output)?;
+    put_last(b" first ", first, output)
 }

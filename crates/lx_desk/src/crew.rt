@@ -1,14 +1,10 @@
 //! The job `crew`: the scripts of several operators at the same time, over a show.
 
 ghost use Rattle.std.specs.Prelude.{◌≡◌, ◌≤◌, true, false, IfSome, IsSome, Some, length};
+ghost use Rattle.lx_desk.specs.Imports.{reads, EachAt, HasStood, HandsOn, HasCrewCause, HasCrewEnded, KeepsOperators, ServesOver, TakesNoneOrWants};
+ghost use Rattle.lx_desk.specs.Imports.{TellsCrew, TellsOperators, WantsCrew, WritesCrewFront, Finishes, HasWanted};
 ghost use Rattle.lx_base.specs.declared.TheConstants.{OPERATORS};
 ghost use Rattle.lx_spec.specs.declared.Job.TheVariants.{Crew};
-ghost use Rattle.lx_spec.specs.Reading.{reads};
-ghost use Rattle.lx_base.specs.Places.{EachAt};
-ghost use Rattle.lx_session.specs.Spared.{HasStood};
-ghost use Rattle.lx_desk.specs.Crew.{HandsOn, HasCrewCause, HasCrewEnded, KeepsOperators, ServesOver};
-ghost use Rattle.lx_desk.specs.Crew.{TakesNoneOrWants, TellsCrew, TellsOperators, WantsCrew, WritesCrewFront};
-ghost use Rattle.lx_desk.specs.Finished.{Finishes, HasWanted};
 
 use crate::desk::Status;
 use crate::finish::status_of_sink;
@@ -31,12 +27,13 @@ use std::thread::Threads;
 ///
 /// A fault of an operator costs no line of another. The fault of the output decides the status first, and then that of the
 /// lowest operator that had one; where that is told, all that was written is handed on. The answer is never Live. With Ok and ShowRefused
-/// no read of the input and no write failed, and all that was written is handed on. Memory is told only before anything is written and
-/// any operator's source read, or where the output itself is out of memory. A fault of the input or of an operator is told only where the
-/// output had none, and one of an operator or of the output only where the input had none.
+/// no read of the input and no write failed, and all that was written is handed on. With Ok no read of an operator in use failed either,
+/// and of a refused show none was made. Memory is told only before anything is written and any operator's source read, or where the output
+/// itself is out of memory. A fault of the input or of an operator is told only where the output had none, and one of an operator or of
+/// the output only where the input had none.
 ///
 /// Its memory is that of two heaps: the first's for the show and its edits, and the queue's for what the lines go through.
-/// Where the heap refused nothing no edit was refused for want of memory. Memory is told only where the heap refused some, or the
+/// Where the heap refused nothing no edit was refused as out of memory. Memory is told only where the heap refused some, or the
 /// queue's did, or where the output itself is out of memory.
 pub fn run_crew_in<
     R: Threads + Wait + Sync,

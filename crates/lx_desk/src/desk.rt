@@ -1,12 +1,9 @@
 //! The jobs that are done in the caller's thread.
 
 ghost use Rattle.std.specs.Prelude.{IfSome, Some, true, ◌≡◌, ◌≤◌, ℕ};
+ghost use Rattle.lx_desk.specs.Imports.{given_to, WritesPrefix, HasStood, AnswersJob, HasEnded, HasEndedBy, HasCauseOf, Finishes, HasWanted};
+ghost use Rattle.lx_desk.specs.Imports.{WantsMemory};
 ghost use Rattle.lx_spec.specs.declared.Job.TheVariants.{Make};
-ghost use Rattle.lx_spec.specs.Job.{given_to};
-ghost use Rattle.lx_desk.specs.Output.{WritesPrefix};
-ghost use Rattle.lx_session.specs.Spared.{HasStood};
-ghost use Rattle.lx_desk.specs.Endings.{AnswersWords, HasEnded, HasEndedBy, HasCauseOf};
-ghost use Rattle.lx_desk.specs.Finished.{Finishes, HasWanted, WantsMemory};
 
 use crate::check::check;
 use crate::make::make;
@@ -49,7 +46,7 @@ pub enum Status {
 /// of the output only where the input had none. Where a read failed, all replies before it are handed on.
 ///
 /// All its memory is that of the heap. Where the heap refused nothing, what is written is that of a script of which no edit and no record
-/// was refused for want of memory. Memory is told only where the heap refused some, or where the output itself is out of memory.
+/// was refused as out of memory. Memory is told only where the heap refused some, or where the output itself is out of memory.
 ///
 /// `run` and `crew` run beside threads: the answer is Live, and nothing is read or written. `run_live_in` and `run_crew_in` do them.
 pub fn run_job_in<H: Heap, S: Source, K: Sink>(
@@ -58,7 +55,7 @@ pub fn run_job_in<H: Heap, S: Source, K: Sink>(
     input: &mut S,
     output: &mut K,
 ) -> Status
-    ensures words { AnswersWords (Some job) result input.old input.new output.old output.new }
+    ensures answered { AnswersJob job result input.old input.new output.old output.new }
     ensures ended { IfSome (given_to job (S.left input.old))
         (λ bytes. HasEnded result job bytes (S.left input.new) (K.holds output.old) (K.holds output.new)) }
     ensures spared { HasStood (H.refusals heap.old) (H.refusals heap.new) → IfSome (given_to job (S.left input.old))

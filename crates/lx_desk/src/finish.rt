@@ -1,10 +1,7 @@
 //! How the telling of a text ends.
 
 ghost use Rattle.std.specs.Prelude.{◌≡◌, [], ℕ, List, OnOk};
-ghost use Rattle.lx_io.specs.Puts.{Puts};
-ghost use Rattle.lx_desk.specs.Done.{Tells};
-ghost use Rattle.lx_desk.specs.Faults.{status_of_sink};
-ghost use Rattle.lx_desk.specs.Finished.{IsDone};
+ghost use Rattle.lx_desk.specs.Imports.{Puts, Tells, status_of_sink, IsDone};
 
 use crate::desk::Status;
 use lx_io::{Sink, SinkFault};

@@ -2,12 +2,8 @@
 #![tactic(auto, using(lx_io::proofs::Chain::puts))]
 
 ghost use Rattle.std.specs.Prelude.{◌≡◌, ◌<◌, ◌*◌, ◌∷◌, ◌++◌, [], codes, decimal, flat_map, IfOk, IfSome, OnOk};
-ghost use Rattle.std.specs.List.{range_with_len};
-ghost use Rattle.lx_io.specs.Causes.{HasCause};
-ghost use Rattle.lx_io.specs.Puts.{Puts};
-ghost use Rattle.lx_spec.specs.ShowText.{line};
-ghost use Rattle.lx_spec.specs.MakeOutput.{drawn_from, made_cue, made_patch, made_turn, made_input};
-ghost use Rattle.lx_desk.specs.Generator.{chan_text, cue_head, drawn_cue_text, go_text, made_show, patched_text, set_text, turn_text};
+ghost use Rattle.lx_desk.specs.Imports.{range_with_len, HasCause, Puts, line, drawn_from, made_cue, made_patch, made_turn, made_input, chan_text};
+ghost use Rattle.lx_desk.specs.Imports.{cue_head, drawn_cue_text, go_text, made_show, patched_text, set_text, turn_text};
 
 use crate::draws::{DrawnCue, DrawnTurn, Draws, Setting};
 use crate::room_sink::RoomSink;
@@ -194,7 +190,7 @@ fn put_set<K: Sink>(number: u32, setting: Setting, sink: &mut K) -> Result<(), S
 }
 
 /// Appends a text, a number and a line end.
-fn put_last<K: Sink>(text: &[u8], number: u32, sink: &mut K) -> Result<(), SinkFault>
+pub(crate) fn put_last<K: Sink>(text: &[u8], number: u32, sink: &mut K) -> Result<(), SinkFault>
     ensures { Puts K.Sink sink.old sink.new result (text.now ++ decimal number ++ 10 ∷ []) }
 {
     put_number(text, number, sink)?;
@@ -202,7 +198,7 @@ fn put_last<K: Sink>(text: &[u8], number: u32, sink: &mut K) -> Result<(), SinkF
 }
 
 /// Appends a text and a number.
-fn put_number<K: Sink>(text: &[u8], number: u32, sink: &mut K) -> Result<(), SinkFault>
+pub(crate) fn put_number<K: Sink>(text: &[u8], number: u32, sink: &mut K) -> Result<(), SinkFault>
     ensures { Puts K.Sink sink.old sink.new result (text.now ++ decimal number) }
 {
     put_all(sink, text)?;

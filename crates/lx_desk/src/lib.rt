@@ -16,6 +16,8 @@ mod refuse;
 mod room_sink;
 mod script;
 mod sheet;
+mod two;
+mod undo;
 
 pub use crew::run_crew_in;
 pub use desk::{Status, run_job_in};

@@ -1,14 +1,11 @@
 //! The job `run`: a script over the show that stands before it, played live.
 
 ghost use Rattle.std.specs.Prelude.{◌≡◌, ◌≤◌, IfSome, Some, length};
+ghost use Rattle.lx_desk.specs.Imports.{CanAdvance, SameSource, bytes_taken, IsFull, ByLiveMemory, HasLived, KeepsOutlets, HasLiveCause, WantsLive};
+ghost use Rattle.lx_desk.specs.Imports.{TellsOutlets, TellsRun, DecidesInOrder, LivesToEnd, PlaysLive, Finishes};
 ghost use Rattle.lx_base.specs.declared.TheConstants.{INPUT_BYTES, UNIVERSES};
-ghost use Rattle.lx_lex.specs.Unread.{CanAdvance, SameSource, bytes_taken};
 ghost use Rattle.lx_spec.specs.declared.Job.TheVariants.{Script};
 ghost use Rattle.lx_spec.specs.declared.ScriptKind.TheVariants.{Live};
-ghost use Rattle.lx_workers.specs.Places.{IsFull};
-ghost use Rattle.lx_desk.specs.Live.{ByLiveMemory, HasLived, KeepsOutlets, HasLiveCause, WantsLive};
-ghost use Rattle.lx_desk.specs.Live.{TellsOutlets, TellsRun, DecidesInOrder, LivesToEnd, PlaysLive};
-ghost use Rattle.lx_desk.specs.Finished.{Finishes};
 
 use crate::desk::Status;
 use crate::play::status_of;
@@ -37,7 +34,7 @@ use std::thread::Threads;
 /// none. Where a read failed, all replies before it are handed on.
 ///
 /// Its memory is that of two heaps: the first's for the show and its edits, and the writer's for what is published.
-/// Where the heap refused nothing no edit was refused for want of memory, as long as fewer than 2^62 commands were accepted. Where the
+/// Where the heap refused nothing no edit was refused as out of memory, as long as fewer than 2^62 commands were accepted. Where the
 /// writer's refused nothing, all accepted commands were published, also where the run ended by a fault. Memory is told only where the heap
 /// refused some, or the writer's did, or where the output or an outlet itself is out of memory.
 pub fn run_live_in<
@@ -69,11 +66,10 @@ pub fn run_live_in<
         (O.holds output.new) outlets.old outlets.new)) }
     ensures cause { HasLiveCause K.Sink result (S.faults input.old) (S.faults input.new) (O.faults output.old) (O.faults output.new)
         outlets.old outlets.new }
-    ensures order { ByLiveMemory (H.refusals heap.old) (H.refusals heap.new) writers.old writers.new (λ ample. IfSome (S.left input.old)
-        (λ bytes. DecidesInOrder result (S.faults input.old) (S.faults input.new) O.Sink output.old output.new outlets.old
-        outlets.new
-        (λ Told. LivesToEnd ample Told K.Sink universes form bytes (O.holds output.old) (O.holds output.new)
-        outlets.old outlets.new))) }
+    ensures order { ByLiveMemory (H.refusals heap.old) (H.refusals heap.new) writers.old writers.new
+        (λ ample. DecidesInOrder result (S.faults input.old) (S.faults input.new) O.Sink output.old output.new outlets.old outlets.new
+        (λ Told. IfSome (S.left input.old) (λ bytes. LivesToEnd ample Told K.Sink universes form bytes (O.holds output.old)
+        (O.holds output.new) outlets.old outlets.new))) }
     ensures finished { Finishes (S.faults input.old) (S.faults input.new) O.Sink output.old output.new result }
     ensures wanted { WantsLive O.Sink K.Sink (H.refusals heap.old) (H.refusals heap.new) writers.old writers.new output.old output.new
         outlets.old outlets.new result }

@@ -2,18 +2,10 @@
 #![tactic(auto, using(lx_io::proofs::Chain::puts))]
 
 ghost use Rattle.std.specs.Prelude.{◌≡◌, ◌≤◌, ◌∷◌, [], ℕ, List, Some, decimal, sum, length, IsTrue};
+ghost use Rattle.lx_desk.specs.Imports.{Puts, made_input, line, Desk, opened, frame, universe, StandsFor, Does, TellsScript, report_of, report_text};
 ghost use Rattle.std.specs.declared.option.Option.{Option};
 ghost use Rattle.lx_base.specs.declared.TheConstants.{INPUT_BYTES, UNIVERSE_SLOTS};
-ghost use Rattle.lx_io.specs.Puts.{Puts};
 ghost use Rattle.lx_spec.specs.declared.Job.TheVariants as jobs;
-ghost use Rattle.lx_spec.specs.MakeOutput.{made_input};
-ghost use Rattle.lx_spec.specs.ShowText.{line};
-ghost use Rattle.lx_spec.specs.Desk.{Desk, opened};
-ghost use Rattle.lx_spec.specs.Output.{frame};
-ghost use Rattle.lx_console.specs.Slots.{universe};
-ghost use Rattle.lx_console.specs.ConsoleMeaning.{StandsFor};
-ghost use Rattle.lx_desk.specs.Done.{Does, Tells};
-ghost use Rattle.lx_desk.specs.Made.{TellsScript, report_of, report_text};
 
 use crate::desk::Status;
 use crate::discard::Discard;
@@ -90,7 +82,11 @@ fn tell_session<H: Heap, S: Source, K: Sink>(
         return Status::Memory;
     };
     match session_in(heap, &mut console, lines, &mut Discard) {
-        Ok(tally) => tell(report_on(cues, &console, tally), output),
+        Ok(tally) => finish(
+            put_report(report_on(cues, &console, tally), output),
+            Status::Ok,
+            output,
+        ),
         Err(fault) => status_of(Err(fault)),
     }
 }
@@ -129,14 +125,7 @@ fn sum_of(slots: &[Level]) -> u64
     total
 }
 
-/// Writes the lines about a session.
-fn tell<K: Sink>(report: Report, output: &mut K) -> Status
-    ensures { (refusals : ℕ) → Tells K.Sink refusals refusals Status.Ok (report_text report) output.old output.new result }
-{
-    finish(put_report(report, output), Status::Ok, output)
-}
-
-/// Appends the lines.
+/// Appends the lines about a session.
 fn put_report<K: Sink>(report: Report, output: &mut K) -> Result<(), SinkFault>
     ensures { Puts K.Sink output.old output.new result (report_text report) }
 {

@@ -2,10 +2,7 @@
 #![tactic(auto, using(lx_io::proofs::Chain::puts))]
 
 ghost use Rattle.std.specs.Prelude.{◌∷◌, [], codes, decimal};
-ghost use Rattle.lx_io.specs.Puts.{Puts};
-ghost use Rattle.lx_spec.specs.ShowText.{line as text_line};
-ghost use Rattle.lx_spec.specs.FaultLine.{fault_text};
-ghost use Rattle.lx_desk.specs.Done.{Refuses};
+ghost use Rattle.lx_desk.specs.Imports.{Puts, line as text_line, fault_text, Refuses};
 
 use crate::desk::Status;
 use crate::finish::finish;

@@ -1,28 +1,21 @@
 //! The jobs of a script over the show that stands before it.
 
 ghost use Rattle.std.specs.Prelude.{◌≡◌, ◌≤◌, false, IfSome, Some};
+ghost use Rattle.lx_desk.specs.Imports.{CanAdvance, SameSource, bytes_taken, answering_of, opening_of, WritesPrefix, Does, AnswersJob, HasEndedBy};
+ghost use Rattle.lx_desk.specs.Imports.{HasCauseOf, is_live, ByMemory, Finishes, HasWanted, WantsMemory, Plays};
 ghost use Rattle.lx_base.specs.declared.TheConstants.{INPUT_BYTES};
-ghost use Rattle.lx_lex.specs.Unread.{CanAdvance, SameSource, bytes_taken};
 ghost use Rattle.lx_spec.specs.declared.Job.TheVariants as jobs;
-ghost use Rattle.lx_spec.specs.ScriptKinds.{answering_of, opening_of};
-ghost use Rattle.lx_desk.specs.Output.{WritesPrefix};
-ghost use Rattle.lx_desk.specs.Done.{Does};
-ghost use Rattle.lx_desk.specs.Endings.{AnswersWords, HasEndedBy, HasCauseOf, is_live};
-ghost use Rattle.lx_session.specs.Spared.{ByMemory};
-ghost use Rattle.lx_desk.specs.Finished.{Finishes, HasWanted, WantsMemory};
-ghost use Rattle.lx_desk.specs.Plays.{Plays};
 
 use crate::desk::Status;
-use crate::play::{play, play_by};
+use crate::play::play;
 use crate::refuse::refuse;
-use lx_base::UNDO_DEPTH;
+use crate::two::play_two;
+use crate::undo::play_with_undo;
 use lx_io::{Heap, Sink, Source};
 use lx_lex::Lines;
-use lx_lists::TwoLists;
 use lx_reader::read_show_in;
 use lx_show::{Form, Show};
 use lx_spec::ScriptKind;
-use lx_undo::UndoDesk;
 
 /// Reads a show and then a script, and answers the script over the show. Of one that is played live nothing is done here.
 pub(crate) fn script<H: Heap, S: Source, K: Sink>(
@@ -32,7 +25,7 @@ pub(crate) fn script<H: Heap, S: Source, K: Sink>(
     input: &mut S,
     output: &mut K,
 ) -> Status
-    ensures words { AnswersWords (Some (jobs.Script kind form)) result input.old input.new output.old output.new }
+    ensures answered { AnswersJob (jobs.Script kind form) result input.old input.new output.old output.new }
     ensures ended { ByMemory (H.refusals heap.old) (H.refusals heap.new) (λ ample. IfSome (S.left input.old)
         (λ bytes. HasEndedBy ample result (jobs.Script kind form) bytes (S.left input.new) (K.holds output.old) (K.holds output.new))) }
     ensures prefix { IfSome (S.left input.old)
@@ -93,12 +86,7 @@ fn play_script<H: Heap, S: Source, K: Sink>(
     match kind {
         ScriptKind::Render => play(heap, show, lines, output),
         ScriptKind::Live(_) => unreachable!(),
-        ScriptKind::Undo => play_by(
-            UndoDesk::open_in(heap, show, UNDO_DEPTH),
-            heap,
-            lines,
-            output,
-        ),
-        ScriptKind::Two => play_by(TwoLists::open_in(heap, show), heap, lines, output),
+        ScriptKind::Undo => play_with_undo(heap, show, lines, output),
+        ScriptKind::Two => play_two(heap, show, lines, output),
     }
 }

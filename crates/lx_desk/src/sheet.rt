@@ -1,10 +1,8 @@
 //! The job `sheet`: the list of a show's cues.
 
-ghost use Rattle.std.specs.Prelude.{flat_map, ℕ};
+ghost use Rattle.std.specs.Prelude.{flat_map};
+ghost use Rattle.lx_desk.specs.Imports.{cue_lines, Does, Tells};
 ghost use Rattle.lx_spec.specs.declared.Job.TheVariants as jobs;
-ghost use Rattle.lx_spec.specs.SheetOutput.{cue_lines};
-ghost use Rattle.lx_sheet.specs.SheetMeaning.{RowsStandFor};
-ghost use Rattle.lx_desk.specs.Done.{Does, Tells};
 
 use crate::desk::Status;
 use crate::finish::finish;
@@ -39,16 +37,7 @@ fn list<H: Heap, K: Sink>(heap: &mut H, show: &Show, output: &mut K) -> Status
         output.new result }
 {
     match Sheet::open_in(heap, show) {
-        Ok(sheet) => tell(show, &sheet, output),
+        Ok(sheet) => finish(put_cue_list(show, &sheet, output), Status::Ok, output),
         Err(_) => Status::Memory,
     }
-}
-
-/// Writes the cue list of a show by its sheet.
-fn tell<K: Sink>(show: &Show, sheet: &Sheet, output: &mut K) -> Status
-    requires { RowsStandFor show.now sheet.now }
-    ensures { (refusals : ℕ)
-        → Tells K.Sink refusals refusals Status.Ok (flat_map (cue_lines show.now) show.now.cues) output.old output.new result }
-{
-    finish(put_cue_list(show, sheet, output), Status::Ok, output)
 }

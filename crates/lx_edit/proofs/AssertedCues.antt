@@ -1,5 +1,5 @@
 -- Whether the cues of a show are asserted, where one is placed or taken out.
-use Rattle.lx_edit.proofs.Imports.{◌≡◌, ℕ, false, Some, None, refl, ◌∙◌, sym, ap, subst, inl, inr, Option, IfSome, option_map_or, cases_eq}
+use Rattle.lx_edit.proofs.Imports.{◌≡◌, ℕ, false, Some, None, refl, ◌∙◌, sym, ap, inl, inr, Option, IfSome, option_map_or, cases_eq}
 use Rattle.lx_edit.proofs.Imports.{Cue, Show, asserts, changed_show, with_above}
 use Rattle.lx_edit.proofs.SameLists.{exchanged_here, exchanged_other}
 
@@ -9,8 +9,7 @@ pub asserts_changed : (show : Show) (n k : ℕ) (new : Option Cue) → IfSome ne
 asserts_changed show n k new number same =
     let flag = λ (o : Option Cue). option_map_or (λ cue. cue.asserted) o false in
     elim (cases_eq k n) [
-      | inl here ↦ subst (λ j. asserts show j ≡ asserts (changed_show show n new) j) (sym here)
-          (same ∙ sym (ap flag (exchanged_here (λ (x : Cue). x.number) n new show.cues number)))
+      | inl here ↦ rw (here, exchanged_here (λ (x : Cue). x.number) n new show.cues number) same
       | inr other ↦ sym (ap flag (exchanged_other (λ (x : Cue). x.number) n k new show.cues number other))
     ]
 

@@ -1,11 +1,10 @@
 -- Channels as bits.
-use Rattle.lx_edit.proofs.Imports.{◌≡◌, ◌≢◌, ℕ, zero, suc, ◌+◌, ◌-◌, ◌*◌, ◌/◌, ◌%◌, ◌^◌, ◌<◌, ◌≤◌, Bool, true}
+use Rattle.lx_edit.proofs.Imports.{◌≡◌, ◌≢◌, ℕ, zero, suc, ◌+◌, ◌-◌, ◌*◌, ◌/◌, ◌%◌, ◌^◌, ◌<◌, ◌≤◌, true}
 use Rattle.lx_edit.proofs.Imports.{false, List, length, get_or, set, replicate, refl, ◌∙◌, sym, ap, subst, inl, inr, arith, w64, ◌==◌, ◌||◌}
 use Rattle.lx_edit.proofs.Imports.{◌&&◌, bit_or, slice_index, bit_at, cases_eq, false≢true, CHANNELS, nat_tests, get_or-replicate, get_or-set_same}
 use Rattle.lx_edit.proofs.Imports.{get_or-set_other, bit_at-zero, bit_at_ones, bit_at_set_same, bit_at_set_other, ChanSet, is_chan, eq_other, eq_true}
 use Rattle.lx_edit.proofs.Imports.{bit_at_above, bit_at-trailing_zeros, cases_Bool, cases_lt, shr-shr, shr_le, trailing_zeros}
 use Rattle.std.proofs.Math.Bool.{and-false}
-use Rattle.std.proofs.Math.Nat.{div-add-mod}
 use Rattle.lx_edit.specs.ChanSet.{has_chan}
 
 pub is_chan-in : (c : ℕ) → 1 ≤ c → c ≤ CHANNELS → is_chan c ≡ true
@@ -56,13 +55,6 @@ no_channel full other each c out = elim (cases_Bool (is_chan c)) [
   | inr is ↦ has_chan-none other c is
 ]
 
--- two channels of one word have two bits
-two_bits : (x c : ℕ) → 1 ≤ x → 1 ≤ c → (x - 1) / 64 ≡ (c - 1) / 64 → (x ≡ c → ⊥) → (x - 1) % 64 ≢ (c - 1) % 64
-two_bits x c least_x least_c word differ bit =
-    let before : x - 1 ≡ c - 1 = sym (div-add-mod (x - 1) 64) ∙ ap (λ k. 64 * k + (x - 1) % 64) word ∙ ap (λ k. 64 * ((c - 1) / 64) + k) bit
-    ∙ div-add-mod (c - 1) 64 in
-    differ (omega (arith, before))
-
 abbrev pub with_chan : List ℕ → ℕ → List ℕ
 with_chan words c = set words ((c - 1) / 64) (bit_or (get_or words ((c - 1) / 64) 0) (1 * 2 ^ ((c - 1) % 64) % 18446744073709551616))
 
@@ -70,17 +62,11 @@ set_here : (words : List ℕ) (c : ℕ) → (c - 1) / 64 < length words → bit_
 set_here words c within = ap (λ w. bit_at w ((c - 1) % 64)) (get_or-set_same words ((c - 1) / 64) _ 0 within)
     ∙ bit_at_set_same w64 (get_or words ((c - 1) / 64) 0) ((c - 1) % 64) (in_word (c - 1))
 
-set_other_bit : (words : List ℕ) (c i j : ℕ) → (c - 1) / 64 < length words → i ≡ (c - 1) / 64 → j ≢ (c - 1) % 64
-    → bit_at (get_or (with_chan words c) i 0) j ≡ bit_at (get_or words i 0) j
-set_other_bit words c i j within word bit =
-    let P : ℕ → Type 0 = λ k. bit_at (get_or (with_chan words c) k 0) j ≡ bit_at (get_or words k 0) j in
-    subst P (sym word) (ap (λ w. bit_at w j) (get_or-set_same words ((c - 1) / 64) _ 0 within)
-    ∙ bit_at_set_other w64 (get_or words ((c - 1) / 64) 0) ((c - 1) % 64) (in_word (c - 1)) j bit)
-
 bit_kept : (words : List ℕ) (c x : ℕ) → 1 ≤ c → 1 ≤ x → (c - 1) / 64 < length words → (x ≡ c → ⊥)
     → bit_at (get_or (with_chan words c) ((x - 1) / 64) 0) ((x - 1) % 64) ≡ bit_at (get_or words ((x - 1) / 64) 0) ((x - 1) % 64)
 bit_kept words c x least_c least_x within differ = elim (cases_eq ((x - 1) / 64) ((c - 1) / 64)) [
-  | inl word ↦ set_other_bit words c ((x - 1) / 64) ((x - 1) % 64) within word (two_bits x c least_x least_c word differ)
+  | inl word ↦ rw (word, get_or-set_same words ((c - 1) / 64) _ 0 within) (bit_at_set_other w64 (get_or words ((c - 1) / 64) 0) ((c - 1) % 64)
+      (in_word (c - 1)) ((x - 1) % 64) (λ bit. differ (omega (arith, least_x, least_c, word, bit))))
   | inr apart ↦ ap (λ w. bit_at w ((x - 1) % 64)) (get_or-set_other words ((c - 1) / 64) ((x - 1) / 64) _ 0 apart)
 ]
 

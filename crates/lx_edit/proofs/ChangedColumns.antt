@@ -7,7 +7,7 @@ use Rattle.lx_edit.proofs.Imports.{with_cue, changed_show, entries_up_to, ChanSe
 use Rattle.lx_edit.proofs.Imports.{IsPast, KeepsAbove, le_true, all_reverse, each, eq_other, find_has, find_none, found_number, has_placed, split_there}
 use Rattle.lx_edit.proofs.Lists.{with_some}
 use Rattle.lx_edit.proofs.SameLists.{exchanged_here, exchanged_other}
-use Rattle.lx_edit.proofs.Walks.{walked, later, above_exchanged, tracked_below, tracked_changed, tracked_split}
+use Rattle.lx_edit.proofs.Walks.{walked, later, above_exchanged, tracked_below, tracked_changed, tracked_into, tracked_split}
 
 level_step : (block : Bool) (m : Option Move) (base : ℕ) → (m ≡ None → base ≡ 0)
     → cond (block || is_some m) (option_map_or (λ x. x.level) m 0) base ≡ option_map_or (λ x. x.level) m 0
@@ -59,9 +59,7 @@ nothing_tracks show n c valid within = elim (in_range show.channels c) [
 pub move_changed : (show : Show) (n c k : ℕ) (new : Option Cue) → IfSome new (λ cue. cue.number ≡ n)
     → move_by (cue_of show n) c ≡ move_by new c → move_of show k c ≡ move_of (changed_show show n new) k c
 move_changed show n c k new number moves = elim (cases_eq k n) [
-  | inl here ↦
-      subst (λ j. move_of show j c ≡ move_of (changed_show show n new) j c) (sym here)
-      (moves ∙ sym (ap (λ (o : Option Cue). move_by o c) (exchanged_here (λ (x : Cue). x.number) n new show.cues number)))
+  | inl here ↦ rw (here, exchanged_here (λ (x : Cue). x.number) n new show.cues number) moves
   | inr other ↦ sym (ap (λ (o : Option Cue). move_by o c) (exchanged_other (λ (x : Cue). x.number) n k new show.cues number other))
 ]
 
@@ -71,9 +69,10 @@ column_changed : (show : Show) (n c : ℕ) (new : Option Cue) → Valid show →
 column_changed show n c new valid least number entry = record {
   moves = λ k. move_changed show n c k new number entry.moves;
   levels = λ k. elim (cases_lt k n) [
-    | inl low ↦ sym (tracked_below show n k c new low number)
-    | inr high ↦ tracked_split show n k c least high valid.cues_sorted ∙ ap (λ base. walked c base (later show n k)) entry.level
-        ∙ sym (tracked_changed show n k c new least high number valid.cues_sorted)
+    | inl low ↦ sym (tracked_below show n k c new number low)
+    | inr high ↦ tracked_split show n c valid.cues_sorted k high
+        ∙ ap (λ base. walked c base (later show n k)) (rw (← tracked_into show n c least) entry.level)
+        ∙ sym (tracked_changed show n k c new number high valid.cues_sorted)
   ];
 }
 
@@ -113,62 +112,64 @@ past_alike c a b m (y ∷ ys) past =
           [ true ↦ on false other a ∙ same ∙ sym (on false other b) | false ↦ same ]
     ]
 
-pub alike_past : (show : Show) (cue : Cue) (n m c : ℕ) → Valid show → cue.number ≡ n → 1 ≤ n → IsPast None (with_cue show cue) n c m
+pub alike_past : (show : Show) (cue : Cue) (n m c : ℕ) → Valid show → cue.number ≡ n → IsPast None (with_cue show cue) n c m
     → tracked show m c ≡ tracked (with_cue show cue) m c
-alike_past show cue n m c valid number least past = elim (cases_lt m n) [
-  | inl less ↦ sym (tracked_below show n m c (Some cue) less number)
-  | inr le ↦ tracked_split show n m c least le valid.cues_sorted
+alike_past show cue n m c valid number past = elim (cases_lt m n) [
+  | inl less ↦ sym (tracked_below show n m c (Some cue) number less)
+  | inr le ↦ tracked_split show n c valid.cues_sorted m le
       ∙ past_alike c _ _ m (entries_above (λ (x : Cue). x.number) n show.cues) (subst (λ (cues : List Cue).
       IsSomeAnd (option_map (λ x. x.number) (find (λ x. decides x c) cues)) (λ end. end ≤ m))
       (above_exchanged (λ (x : Cue). x.number) n n (Some cue) show.cues (omega arith) number) past)
-      ∙ sym (tracked_changed show n m c (Some cue) least le number valid.cues_sorted)
+      ∙ sym (tracked_changed show n m c (Some cue) number le valid.cues_sorted)
 ]
 
 -- Cue only: a cue placed, and the one above it with it.
-module _ (show : Show) (cue kept : Cue) (valid : Valid show) (keeps : KeepsAbove show (with_cue show cue) cue.number kept) where
+pub record IsAlone (show : Show) (cue kept : Cue) (n end : ℕ) : Type 0 where
+  pub number : cue.number ≡ n
+  pub end_is : kept.number ≡ end
+  pub least : 1 ≤ n
+  pub valid : Valid show
+  pub keeps : KeepsAbove show (with_cue show cue) n kept
+
+module _ {show : Show} {cue kept : Cue} {n end : ℕ} (a : IsAlone show cue kept n end) where
   pub alone_numbers : Valid (with_cue show cue)
       → map (λ x. x.number) (with_cue (with_cue show cue) kept).cues ≡ map (λ x. x.number) show.cues
   alone_numbers then =
-      numbers_with (with_cue show cue) kept then (has_placed (λ (x : Cue). x.number) kept.number cue show.cues keeps.above)
-      ∙ numbers_with show cue valid keeps.cue
+      numbers_with (with_cue show cue) kept then (has_placed (λ (x : Cue). x.number) kept.number cue show.cues a.keeps.above)
+      ∙ numbers_with show cue a.valid (rw a.number a.keeps.cue)
 
-  pub alone_below : (m c : ℕ) → m < cue.number → tracked (with_cue (with_cue show cue) kept) m c ≡ tracked show m c
+  pub alone_below : (m c : ℕ) → m < n → tracked (with_cue (with_cue show cue) kept) m c ≡ tracked show m c
   alone_below m c less =
-      let higher : cue.number < kept.number = keeps.higher in
-      tracked_below (with_cue show cue) kept.number m c (Some kept) (omega (arith, less, higher)) refl
-      ∙ tracked_below show cue.number m c (Some cue) less refl
+      let higher : n < kept.number = a.keeps.higher in
+      tracked_below (with_cue show cue) kept.number m c (Some kept) refl (omega (arith, less, higher))
+      ∙ tracked_below show n m c (Some cue) a.number less
 
   -- from the cue above on nothing is changed
-  pub alone_later : (m c : ℕ) → Valid (with_cue (with_cue show cue) kept) → kept.number ≤ m
+  pub alone_later : (m c : ℕ) → Valid (with_cue (with_cue show cue) kept) → end ≤ m
       → tracked (with_cue (with_cue show cue) kept) m c ≡ tracked show m c
   alone_later m c then le = elim (in_range show.channels c) [
-    | inl range ↦ keeps.levels m c range le
-    | inr out ↦ tracked_out (with_cue (with_cue show cue) kept) m c then out ∙ sym (tracked_out show m c valid out)
+    | inl range ↦ a.keeps.levels m c range (rw a.end_is le)
+    | inr out ↦ tracked_out (with_cue (with_cue show cue) kept) m c then out ∙ sym (tracked_out show m c a.valid out)
   ]
 
   -- a channel that sees no difference at either cue sees none at all
-  alone_columns : (c : ℕ) → Valid (with_cue (with_cue show cue) kept) → 1 ≤ cue.number
-      → SameEntry (cue_of show cue.number) (Some cue) c (tracked show (cue.number - 1) c)
-      → move_by (cue_of show kept.number) c ≡ move_by (Some kept) c → SameLevels show (with_cue (with_cue show cue) kept) c
-  alone_columns c then least entry moves =
-      let first : SameLevels show (with_cue show cue) c = column_changed show cue.number c (Some cue) valid least refl entry in
-      let higher : cue.number < kept.number = keeps.higher in
+  alone_columns : (c : ℕ) → Valid (with_cue (with_cue show cue) kept)
+      → SameEntry (cue_of show n) (Some cue) c (tracked show (n - 1) c) → move_by (cue_of show end) c ≡ move_by (Some kept) c
+      → SameLevels show (with_cue (with_cue show cue) kept) c
+  alone_columns c then entry moves =
+      let first : SameLevels show (with_cue show cue) c = column_changed show n c (Some cue) a.valid a.least a.number entry in
       record {
-        moves = λ k. first.moves k ∙ move_changed (with_cue show cue) kept.number c k (Some kept) refl
-            (sym (first.moves kept.number) ∙ moves);
-        levels = λ k. elim (cases_lt k kept.number) [
-          | inl less ↦ first.levels k ∙ sym (tracked_below (with_cue show cue) kept.number k c (Some kept) less refl)
+        moves = λ k. first.moves k ∙ move_changed (with_cue show cue) end c k (Some kept) a.end_is (sym (first.moves end) ∙ moves);
+        levels = λ k. elim (cases_lt k end) [
+          | inl less ↦ first.levels k ∙ sym (tracked_below (with_cue show cue) end k c (Some kept) a.end_is less)
           | inr le ↦ sym (alone_later k c then le)
         ];
       }
 
   -- the channels that aren't marked see no difference
-  pub others_alone : (after : Show) (n end : ℕ) (first chans : ChanSet) → Valid after → after ≡ with_cue (with_cue show cue) kept
-      → n ≡ cue.number → end ≡ kept.number → 1 ≤ cue.number → Grows first chans
+  pub others_alone : {after : Show} (first chans : ChanSet) → Valid after → after ≡ with_cue (with_cue show cue) kept → Grows first chans
       → ((x : ℕ) → has_chan first x ≡ false → SameEntry (cue_of show n) (Some cue) x (tracked show (n - 1) x))
       → ((x : ℕ) → has_chan chans x ≡ false → SameEntry (cue_of show end) (Some kept) x (tracked show (end - 1) x))
       → KeepsLevels show after chans
-  others_alone after n end first chans then is number higher least grows here above = λ x out.
-      subst (λ (s : Show). SameLevels show s x) (sym is) (alone_columns x (subst Valid is then) least
-      (subst (λ k. SameEntry (cue_of show k) (Some cue) x (tracked show (k - 1) x)) number (here x (grows x out)))
-      (subst (λ k. SameEntry (cue_of show k) (Some kept) x (tracked show (k - 1) x)) higher (above x out)).moves)
+  others_alone first chans then is grows here above = λ x out. subst (λ (s : Show). SameLevels show s x) (sym is)
+      (alone_columns x (subst Valid is then) (here x (grows x out)) (above x out).moves)

@@ -1,10 +1,10 @@
 -- Cues with moves placed and taken out.
-use Rattle.lx_edit.proofs.Imports.{◌≡◌, ℕ, zero, suc, ◌+◌, ◌-◌, ◌<◌, ◌≤◌, Bool, true, false, cond, List, [], ◌∷◌, ◌++◌}
+use Rattle.lx_edit.proofs.Imports.{◌≡◌, ℕ, ◌+◌, ◌-◌, ◌<◌, ◌≤◌, Bool, true, false, cond, List, [], ◌∷◌, ◌++◌}
 use Rattle.lx_edit.proofs.Imports.{Some, None, refl, map, arith, Option, IsTrue, IfSome, filter, ◌==◌, if◌then◌else◌}
 use Rattle.lx_edit.proofs.Imports.{option_map_or, AllByRecursion, range_with_len, Span, Part, Move, Member, has_entry, CHANNELS, Cue, Show, InRange, IsLevel}
 use Rattle.lx_edit.proofs.Imports.{ValidCue, ValidMove, ValidMember, move_in, all_at, in_proportion, part_for, with_moves, without_moves, moves_for}
 use Rattle.lx_edit.proofs.Imports.{IsWithin, channels_in, with_other_moves, All-all_placed, IsStrictlySorted-all_placed, Fits, base_moves, found_has, kept_by, IsStrictlySorted-filter}
-use Rattle.lx_edit.proofs.Lists.{chosen_more, range_below}
+use Rattle.lx_edit.proofs.Lists.{chosen_more, each_mapped, range_below}
 
 part_of_move : (channels : ℕ) (parts : List Part) (o : Option Move) → IsTrue (has_entry (λ x. x.number) 1 parts)
     → IfSome o (ValidMove channels parts) → IsTrue (has_entry (λ x. x.number) (option_map_or (λ m. m.part) o 1) parts)
@@ -23,9 +23,8 @@ pub moves_fit : (channels : ℕ) (cue : Cue) (part : Option ℕ) (members : List
     → IfSome part (λ p. IsTrue (has_entry (λ x. x.number) p cue.parts)) → AllByRecursion (λ m. m.chan ≤ channels) members
     → AllByRecursion (Fits channels cue.parts)
     (map (λ m. record { chan = m.chan; part = part_for part cue m.chan; level = m.level }) members)
-moves_fit channels cue part [] valid there all = tt
-moves_fit channels cue part (m ∷ ms) valid there all =
-    (record { chan = all.0; part = part_there channels cue part m.chan valid there }, moves_fit channels cue part ms valid there all.1)
+moves_fit channels cue part members valid there all = each_mapped (λ m. m.chan ≤ channels) (Fits channels cue.parts) _ members
+    (λ m le. record { chan = le; part = part_there channels cue part m.chan valid there }) all
 
 -- a cue with some of its moves left out
 pub valid_without_moves : (channels : ℕ) (cue : Cue) (range : Span) → ValidCue channels cue → ValidCue channels (without_moves cue range)
@@ -49,45 +48,34 @@ valid_with_moves channels cue moves valid fits all = with_other_moves channels c
     (IsStrictlySorted-all_placed (λ (m : Move). m.chan) moves cue.moves valid.moves_sorted)
 
 -- the channels of a range within the show's
-levels_within : (level first n top : ℕ) → first + n ≤ top + 1
-    → AllByRecursion (λ m. m.chan ≤ top) (all_at level (range_with_len first n))
-levels_within level first zero top within = tt
-levels_within level first (suc n) top within = (omega arith, levels_within level (first + 1) n top (omega arith))
-
 pub range_within : (level : ℕ) {channels : ℕ} (range : Span) → IsWithin channels range
     → AllByRecursion (λ m. m.chan ≤ channels) (all_at level (channels_in range))
-range_within level range within =
+range_within level {channels} range within =
     let order = within.order in
     let most = within.most in
-    levels_within level range.first _ _ (omega (arith, order, most))
+    each_mapped (λ c. c < channels + 1) (λ (m : Member). m.chan ≤ channels) _ _ (λ c less. omega (arith, less))
+    (range_below range.first (range.last + 1 - range.first) (channels + 1) (omega (arith, order, most)))
 
 pub proportion_within : (level channels : ℕ) (members : List Member) → AllByRecursion (ValidMember channels) members
     → AllByRecursion (λ m. m.chan ≤ channels) (map (in_proportion level) members)
-proportion_within level channels [] all = tt
-proportion_within level channels (m ∷ ms) all = (all.0.chan.most, proportion_within level channels ms all.1)
+proportion_within level channels members all =
+    each_mapped (ValidMember channels) (λ m. m.chan ≤ channels) (in_proportion level) members (λ m valid. valid.chan.most) all
 
 -- a step through the channels, of which some get a move
-pub chosen_next : (test : ℕ → Bool) (level : ℕ → ℕ) (k c : ℕ) (old new : List Move) (o : Option ℕ) → 1 ≤ k
+pub chosen_next : (test : ℕ → Bool) (level : ℕ → ℕ) {k c : ℕ} {old new : List Move} {o : Option ℕ} → 1 ≤ k
     → old ≡ map (λ x. record { chan = x; part = 1; level = level x }) (filter test (range_with_len 1 (k - 1))) → c ≡ k
     → o ≡ (if test c then Some (level c) else None) → new ≡ old ++ base_moves c o
     → new ≡ map (λ x. record { chan = x; part = 1; level = level x }) (filter test (range_with_len 1 (k + 1 - 1)))
-chosen_next test level k c old new o least was here given is =
+chosen_next test level {k} least was here given is =
     let at : ℕ → Move = λ x. record { chan = x; part = 1; level = level x } in
     let length_is : k + 1 - 1 ≡ k - 1 + 1 = omega (arith, least) in
     let before = map at (filter test (range_with_len 1 (k - 1))) in
     rw (is, was, given, here, length_is, chosen_more test at 1 (k - 1) k (omega (arith, least)))
     (elim (test k) as (λ b. before ++ base_moves k (if b then Some (level k) else None) ≡ before ++ cond b (at k ∷ []) []) [ true ↦ refl | false ↦ refl ])
 
-chosen_fit_in : (channels : ℕ) (parts : List Part) (test : ℕ → Bool) (level : ℕ → ℕ) (xs : List ℕ)
-    → IsTrue (has_entry (λ x. x.number) 1 parts) → AllByRecursion (λ c. c < channels + 1) xs
-    → AllByRecursion (Fits channels parts) (map (λ c. record { chan = c; part = 1; level = level c }) xs)
-chosen_fit_in channels parts test level [] base all = tt
-chosen_fit_in channels parts test level (x ∷ xs) base all =
-    let within : x < channels + 1 = all.0 in
-    (record { chan = omega (arith, within); part = base }, chosen_fit_in channels parts test level xs base all.1)
-
 -- the moves that some of the show's channels get are in the cue's part 1
 pub chosen_fit : (show : Show) (parts : List Part) (test : ℕ → Bool) (level : ℕ → ℕ) → IsTrue (has_entry (λ x. x.number) 1 parts)
     → AllByRecursion (Fits show.channels parts) (moves_for show test level)
-chosen_fit show parts test level base = chosen_fit_in show.channels parts test level _ base
+chosen_fit show parts test level base = each_mapped (λ c. c < show.channels + 1) (Fits show.channels parts) _ _
+    (λ c less. record { chan = omega (arith, less); part = base })
     (kept_by (λ c. c < show.channels + 1) test _ (range_below 1 show.channels (show.channels + 1) (omega arith)))

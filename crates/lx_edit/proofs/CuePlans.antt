@@ -1,6 +1,6 @@
 -- Plans that place one cue in the place of the one of its number.
 use Rattle.lx_edit.proofs.Imports.{◌≡◌, ℕ, ◌≤◌, Bool, true, false, cond, List, [], ◌∷◌, Some, None, Ok, refl, ◌∙◌, subst}
-use Rattle.lx_edit.proofs.Imports.{map, arith, IsTrue, ◌==◌, AllByRecursion, false≢true, nat_tests, PARTS}
+use Rattle.lx_edit.proofs.Imports.{map, arith, IsTrue, not, ◌==◌, AllByRecursion, false≢true, nat_tests, PARTS}
 use Rattle.lx_edit.proofs.Imports.{Part, Move, entry_at, has_entry, taken_out, Cue, Show, ValidCue, ValidPart, ValidMove, IsTime, edited, with_cue, with_time}
 use Rattle.lx_edit.proofs.Imports.{new_part, without_part, out_of_part, FoundCue, CanPlace, IsPlan, dimmer_edited, edits_sub, kept_by}
 use Rattle.lx_edit.proofs.Imports.{IsStrictlySorted-filter, IsStrictlySorted-map, found_valid}
@@ -38,20 +38,11 @@ valid_part channels p cue part valid found = found_valid ValidPart (λ x. x.numb
 
 pub valid_time : (part : Part) (rising : Bool) (time delay : ℕ) → ValidPart part → IsTime time → IsTime delay
     → ValidPart (with_time part rising time delay)
-valid_time part true time delay valid is_time is_delay =
-    record { number = valid.number; up = is_time; up_delay = is_delay; down = valid.down; down_delay = valid.down_delay }
-valid_time part false time delay valid is_time is_delay =
-    record { number = valid.number; up = valid.up; up_delay = valid.up_delay; down = is_time; down_delay = is_delay }
+valid_time part true time delay valid is_time is_delay = search
+valid_time part false time delay valid is_time is_delay = search
 
 pub valid_new_part : (p : ℕ) → 1 ≤ p → p ≤ PARTS → ValidPart (new_part p)
-valid_new_part p least most = record {
-  number = record { least = least; most = most };
-  up = omega arith;
-  up_delay = omega arith;
-  down =
-      omega arith;
-  down_delay = omega arith;
-}
+valid_new_part p least most = search (arith)
 
 -- a part other than the one taken out stays
 has_other : (p q : ℕ) (parts : List Part) → (q ≡ p → ⊥) → IsTrue (has_entry (λ x. x.number) q parts)
@@ -81,14 +72,10 @@ all_moved channels p parts (m ∷ ms) base has_base all =
 
 -- a cue without a part other than part 1
 pub valid_without_part : (channels p : ℕ) (cue : Cue) → (1 ≡ p → ⊥) → ValidCue channels cue → ValidCue channels (without_part cue p)
-valid_without_part channels p cue base valid = record {
-  number = valid.number;
-  follow = valid.follow;
-  link = valid.link;
-  label = valid.label;
-  first_part = has_other p 1 cue.parts base valid.first_part;
-  parts = kept_by ValidPart _ cue.parts valid.parts;
-  parts_sorted = IsStrictlySorted-filter (λ (x : Part). x.number) _ cue.parts valid.parts_sorted;
-  moves = all_moved channels p cue.parts cue.moves base valid.first_part valid.moves;
-  moves_sorted = IsStrictlySorted-map (λ (m : Move). m.chan) (out_of_part p) cue.moves (moved_chan p) valid.moves_sorted;
-}
+valid_without_part channels p cue base valid =
+    let first_part = has_other p 1 cue.parts base valid.first_part in
+    let parts = kept_by ValidPart (λ (x : Part). not (x.number == p)) cue.parts valid.parts in
+    let parts_sorted = IsStrictlySorted-filter (λ (x : Part). x.number) (λ x. not (x.number == p)) cue.parts valid.parts_sorted in
+    let moves = all_moved channels p cue.parts cue.moves base valid.first_part valid.moves in
+    let moves_sorted = IsStrictlySorted-map (λ (m : Move). m.chan) (out_of_part p) cue.moves (moved_chan p) valid.moves_sorted in
+    search

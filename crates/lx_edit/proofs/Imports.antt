@@ -12,7 +12,7 @@ pub use Rattle.lx_edit.specs.CueChanges.{SameLevels}
 pub use Rattle.lx_edit.specs.Found.{Fits, FoundCue, GivenPart, IsWithin}
 pub use Rattle.lx_edit.specs.Kept.{DecidesOutside, base_moves, decided, decided_by}
 pub use Rattle.lx_edit.specs.PlanMeaning.{CanExchange, CanMove, CanPlace, CanReplace, changed_show, covers, dimmer_edited, edits_sub, IsAbove, IsPlan}
-pub use Rattle.lx_edit.specs.PlanMeaning.{KeepsAbove, SameOutside, with_above, with_move, with_move_in, with_moves_in}
+pub use Rattle.lx_edit.specs.PlanMeaning.{IsReady, KeepsAbove, SameOutside, with_above, with_move, with_move_in, with_moves_in}
 pub use Rattle.lx_edit.specs.Undone.{cue_instead, TakesBack}
 pub use Rattle.lx_edit.specs.declared.chan_set.ChanSet.{ChanSet}
 pub use Rattle.lx_edit.specs.declared.chan_set.TheConstants.{WORDS}
@@ -34,7 +34,7 @@ pub use Rattle.lx_spec.specs.EditedShow.{all_at, channels_in, channels_of, cue_o
 pub use Rattle.lx_spec.specs.EditedShow.{part_for, with_cue, with_levels, with_members, with_moves, with_part, with_time, without_moves}
 pub use Rattle.lx_spec.specs.EditedShow.{without_part}
 pub use Rattle.lx_spec.specs.Show.{Cue, Group, InRange, IsLevel, IsTime, Show, Sub, Valid, ValidCue, ValidGroup, ValidMember, ValidMembers, ValidMove}
-pub use Rattle.lx_spec.specs.Show.{ValidPart, ValidPatchRow, ValidSub}
+pub use Rattle.lx_spec.specs.Show.{MemberSet, ValidPart, ValidPatchRow, ValidSub}
 pub use Rattle.lx_spec.specs.SortedList.{all_placed, entries_above, entries_below, entry_at, has_entry, IsStrictlySorted, placed, taken_out}
 pub use Rattle.lx_spec.specs.TrackedLevel.{asserts, cue_above, cue_of, decides, level_in, move_in, move_of, tracked}
 pub use Rattle.lx_spec.specs.declared.Edit.TheVariants.{AddPart, DeletePart, Set, Time}
@@ -44,10 +44,10 @@ pub use Rattle.lx_spec.specs.declared.Part.{Part}
 pub use Rattle.std.proofs.lemmas.Bool.{cases_eq, cases_lt, false≢true, or_left, cases_Bool, not-true}
 pub use Rattle.std.proofs.lemmas.Bool.Decides.{nat_tests}
 pub use Rattle.std.proofs.lemmas.List.{get_or-replicate, get_or_default, map_more, nil_from_length, take_more, map-append}
-pub use Rattle.std.proofs.lemmas.List.Elements.{All-from_recursion, filter-append}
+pub use Rattle.std.proofs.lemmas.List.Elements.{filter-append, filter_agree}
 pub use Rattle.std.proofs.lemmas.List.Folds.{find-append}
 pub use Rattle.std.proofs.lemmas.List.FromFn.{map-range_with_len_more}
-pub use Rattle.std.proofs.lemmas.List.Sums.{fold-append, fold_more}
+pub use Rattle.std.proofs.lemmas.List.Sums.{fold-append}
 pub use Rattle.std.proofs.lemmas.Nat.{shr-shr, shr_le}
 pub use Rattle.std.proofs.lemmas.Nat.Bits.{bit_at-trailing_zeros, bit_at-zero, bit_at_above, bit_at_ones, bit_at_set_other, bit_at_set_same}
 pub use Rattle.std.specs.Int.{bit_at, trailing_zeros}

@@ -2,7 +2,7 @@
 use Rattle.lx_edit.proofs.Imports.{◌≡◌, ℕ, zero, suc, ◌+◌, ◌<◌, ◌≤◌, Bool, true, false, cond, List, [], ◌∷◌, ◌++◌, refl}
 use Rattle.lx_edit.proofs.Imports.{◌∙◌, sym, ap, map, arith, filter, find, ◌&&◌, AllByRecursion, range_with_len, filter-append, Option, Some, None}
 use Rattle.lx_edit.proofs.Imports.{map-range_with_len_more, map-append, IfSome, IsTrue, is_some, false≢true, and_known, each, passes}
-use Rattle.lx_edit.proofs.Imports.{filter_all, filter_none, Result, Ok, Err, IfOk, entry_at, found_number}
+use Rattle.lx_edit.proofs.Imports.{filter_agree, filter_all, filter_none, Result, Ok, Err, IfOk, entry_at, found_number}
 
 -- what holds of whatever is found, holds if something is found
 pub if_found : {A : Type 0} {P : A → Type 0} (o : Option A) → ((x : A) → o ≡ Some x → P x) → IfSome o P
@@ -25,6 +25,12 @@ pub range_below : (a n top : ℕ) → a + n ≤ top → AllByRecursion (λ k. k 
 range_below a zero top within = tt
 range_below a (suc n) top within = (omega arith, range_below (a + 1) n top (omega arith))
 
+-- what comes of each element holds of what is made of it
+pub each_mapped : {A B : Type 0} (P : A → Type 0) (Q : B → Type 0) (f : A → B) (xs : List A) → ((x : A) → P x → Q (f x)) → AllByRecursion P xs
+    → AllByRecursion Q (map f xs)
+each_mapped P Q f [] step all = tt
+each_mapped P Q f (x ∷ xs) step all = (step x all.0, each_mapped P Q f xs step all.1)
+
 -- two filters, one after the other
 filter_both : {A : Type 0} (p q : A → Bool) (xs : List A) → filter q (filter p xs) ≡ filter (λ x. p x && q x) xs
 filter_both p q [] = refl
@@ -34,15 +40,9 @@ filter_both p q (x ∷ xs) = elim (p x) as (λ b. filter q (cond b (x ∷ filter
       | false ↦ filter_both p q xs
     ]
 
--- tests that agree keep the same
-pub filter_same : {A : Type 0} (p q : A → Bool) (xs : List A) → ((x : A) → p x ≡ q x) → filter p xs ≡ filter q xs
-filter_same {A} p q xs agree =
-    let same : p ≡ q = λ i x. agree x i in
-    ap (λ (t : A → Bool). filter t xs) same
-
 -- a filter behind another: what it keeps, the other kept; it keeps all of that; or none
 pub filter_within : {A : Type 0} (p q : A → Bool) (xs : List A) → ((x : A) → p x ≡ true → q x ≡ true) → filter p (filter q xs) ≡ filter p xs
-filter_within p q xs keeps = filter_both q p xs ∙ filter_same (λ x. q x && p x) p xs (λ x. and_known (q x) (p x) (keeps x))
+filter_within p q xs keeps = filter_both q p xs ∙ filter_agree (λ x. q x && p x) p (λ x. and_known (q x) (p x) (keeps x)) xs
 
 pub filter_again : {A : Type 0} (p q : A → Bool) (xs : List A) → ((x : A) → q x ≡ true → p x ≡ true) → filter p (filter q xs) ≡ filter q xs
 filter_again p q xs keeps = filter_all p (filter q xs) (each _ _ _ keeps (passes q xs))

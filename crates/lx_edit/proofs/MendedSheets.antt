@@ -58,10 +58,9 @@ left_replaced show sheet other n chans w levels numbers channels marks =
       channels = channels ∙ w.stood.channels ∙ sym (ap (λ (s : Show). s.channels) w.is);
       numbers = numbers ∙ w.stood.numbers ∙ sym (ap cue_numbers w.is ∙ numbers_with w.before w.cue w.valid there);
       below = λ x m less. stood x m
-          ∙ sym (ap (λ (s : Show). tracked s m x) w.is ∙ tracked_below w.before n m x (Some w.cue) less w.number);
+          ∙ sym (ap (λ (s : Show). tracked s m x) w.is ∙ tracked_below w.before n m x (Some w.cue) w.number less);
       later = λ x m past. stood x m
-          ∙ alike_past w.before w.cue n m x w.valid w.number (subst (λ (k : ℕ). 1 ≤ k) w.number w.least)
-          (subst (λ (s : Show). IsPast None s n x m) w.is past)
+          ∙ alike_past w.before w.cue n m x w.valid w.number (subst (λ (s : Show). IsPast None s n x m) w.is past)
           ∙ sym (ap (λ (s : Show). tracked s m x) w.is);
       others = λ x out m. stood x m ∙ (others_replaced show sheet n chans w x out).levels m;
       marks = marks;

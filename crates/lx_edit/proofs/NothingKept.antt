@@ -1,8 +1,8 @@
 -- Cue only, where the cue above decides the one channel that a move changes: nothing has to be kept there.
-use Rattle.lx_edit.proofs.Imports.{◌≡◌, ℕ, ◌-◌, Bool, true, false, cond, List, [], ◌∷◌, Some, None, refl, ◌∙◌, sym, ap, subst, inl, inr}
+use Rattle.lx_edit.proofs.Imports.{◌≡◌, ℕ, Bool, true, false, cond, List, [], ◌∷◌, Some, None, refl, ◌∙◌, sym, ap, inl, inr}
 use Rattle.lx_edit.proofs.Imports.{map, Option, IfSome, filter, is_some, not, ◌==◌, ◌||◌, option_map_or, cases_eq, Move, IsStrictlySorted, Cue, Show}
 use Rattle.lx_edit.proofs.Imports.{cue_above, decides, tracked, with_cue, with_moves, cue_only, channels_of, entry_at-placed_other}
-use Rattle.lx_edit.proofs.Imports.{placed_same, FoundCue, decided, unwrap_or, changed_show, with_move}
+use Rattle.lx_edit.proofs.Imports.{placed_same, FoundCue, changed_show, with_move}
 use Rattle.lx_edit.proofs.KeptLevels.{above_there, cue_only_is, level_differs, unchanged}
 use Rattle.lx_edit.proofs.SameLists.{sorted_exchanged}
 
@@ -23,20 +23,18 @@ kept_step : (show : Show) (n : ℕ) (cue : Cue) (entry : Move) (o : Option Cue) 
     → cue_only true show n (with_cue show (with_move cue entry)) ≡ with_cue show (with_move cue entry)
 kept_step show n cue entry None here is apart = cue_only_is show n (Some (with_move cue entry)) None here.number is
 kept_step show n cue entry (Some above) here is apart =
-    let new : Cue = with_move cue entry in
-    let after : Show = with_cue show new in
+    let new : Option Cue = Some (with_move cue entry) in
+    let after : Show = with_cue show (with_move cue entry) in
     let none = none_pass (λ c. not (tracked show above.number c == tracked after above.number c)) (λ c. elim (cases_eq c entry.chan) [
-      | inl at ↦ level_differs show n cue above (Some new) c here here.number is
-          ∙ ap (λ b. cond b false (not (unwrap_or (decided cue c) (tracked show (n - 1) c) == unwrap_or (decided new c) (tracked show (n - 1) c))))
-          (subst (λ k. decides above k ≡ true) (sym at) apart)
-      | inr other ↦ unchanged show n cue above (Some new) c here here.number is (ap (λ (o : Option Move).
+      | inl at ↦ rw (level_differs new c here here.number is, at, apart) refl
+      | inr other ↦ unchanged new c here here.number is (ap (λ (o : Option Move).
           cond (cue.block || is_some o) (Some (option_map_or (λ m. m.level) o 0)) None)
           (entry_at-placed_other (λ (m : Move). m.chan) c entry cue.moves (λ h. other (sym h))))
     ]) (channels_of show) in
-    cue_only_is show n (Some new) (Some above) here.number is
+    cue_only_is show n new (Some above) here.number is
     ∙ ap (λ (cs : List ℕ). with_cue after (with_moves above
     (map (λ c. record { chan = c; part = 1; level = tracked show above.number c }) cs))) none
-    ∙ above_again show n (Some new) above here.valid_show.cues_sorted here.number is
+    ∙ above_again show n new above here.valid_show.cues_sorted here.number is
 
 -- so the edit is the same as without the cue above
 pub nothing_kept : (show : Show) (n : ℕ) (cue : Cue) (entry : Move) → FoundCue show n cue

@@ -4,7 +4,7 @@ use Rattle.lx_edit.proofs.Imports.{cond, arith, inl, inr, Bool, true, Option, Is
 use Rattle.lx_edit.proofs.Imports.{range_with_len, cases_eq, Span, CHANNELS, Set, Move, Part, entry_at, has_entry, placed, Cue, Show, Valid, ValidCue}
 use Rattle.lx_edit.proofs.Imports.{ValidMove, InRange, IsLevel, cue_of, cue_above, decides, move_in, tracked, asserts, with_cue, with_levels, all_at}
 use Rattle.lx_edit.proofs.Imports.{channels_in, cue_only, part_for, edited, le_true, entry_at-placed_here, entry_at-placed_other, found_number, found_valid}
-use Rattle.lx_edit.proofs.Imports.{ChanSet, has_chan, Replaced, Sheet, SameEntry, FoundCue, GivenPart, IsWithin, with_move, with_move_in, with_moves_in}
+use Rattle.lx_edit.proofs.Imports.{ChanSet, has_chan, Replaced, Sheet, FoundCue, GivenPart, IsWithin, with_move, with_move_in, with_moves_in}
 use Rattle.lx_edit.proofs.Imports.{CanMove, CanReplace, IsPlan, RowsStandFor, SameOutside, TakesBack}
 use Rattle.lx_edit.specs.declared.plans.Plan.TheVariants as plans
 use Rattle.lx_edit.proofs.AssertedCues.{asserts_changed}
@@ -56,8 +56,7 @@ moved_is show n entry cue is = changed_is show n (placed (λ m. m.chan) entry) c
 -- the same cues are asserted
 asserts_step : (show : Show) (n k : ℕ) (change : List Move → List Move) (o : Option Cue) → cue_of show n ≡ o
     → asserts show k ≡ asserts (with_moves_in show n change) k
-asserts_step show n k change None is = sym (ap (λ (o : Option Cue). asserts (record show
-    { cues = option_map_or (λ (x : Cue). placed (λ (y : Cue). y.number) (record x { moves = change x.moves }) show.cues) o show.cues }) k) is)
+asserts_step show n k change None is = rw is refl
 asserts_step show n k change (Some cue) is =
     asserts_changed show n k (Some (record cue { moves = change cue.moves })) (sym (found_number (λ (x : Cue). x.number) n show.cues cue is))
     (ap (λ (o : Option Cue). option_map_or (λ (x : Cue). x.asserted) o false) is)
@@ -80,18 +79,12 @@ replaced show after sheet n change chans m valid stood is same = record {
   least = m.least;
   there = m.stands;
   is = is ∙ changed_is show n change m.cue m.found;
-  same = sees_same show n change chans m same;
-} where
-  sees_same : (show : Show) (n : ℕ) (change : List Move → List Move) (chans : ChanSet) (m : Moved show n)
-      → IsSomeAnd (cue_of show n) (λ x. (c : ℕ) → has_chan chans c ≡ false → move_in x c ≡ entry_at (λ m. m.chan) c (change x.moves))
-      → (c : ℕ) → has_chan chans c ≡ false
-      → SameEntry (cue_of show n) (Some (record m.cue { moves = change m.cue.moves })) c (tracked show (n - 1) c)
-  sees_same show n change chans m same c out =
-      let one : move_in m.cue c ≡ entry_at (λ x. x.chan) c (change m.cue.moves) = (rw m.found at same) c out in
-      rw m.found (record {
-        moves = one;
-        level = ap (λ (o : Option Move). cond (m.cue.block || is_some o) (option_map_or (λ x. x.level) o 0) (tracked show (n - 1) c)) one;
-      })
+  same = λ c out. rw m.found (record {
+    moves = (rw m.found at same) c out;
+    level = ap (λ (o : Option Move). cond (m.cue.block || is_some o) (option_map_or (λ x. x.level) o 0) (tracked show (n - 1) c))
+        ((rw m.found at same) c out);
+  });
+}
 
 -- it is so where a move was placed, and its channel marked unless it is the move that was there
 pub sees_moved : (show : Show) (n : ℕ) (entry old : Move) (chans : ChanSet) → Moved show n

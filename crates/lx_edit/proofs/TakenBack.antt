@@ -1,12 +1,12 @@
 -- What takes a plan back makes the show before of the one after.
 use Rattle.lx_edit.proofs.Imports.{◌≡◌, ℕ, ◌<◌, ◌≤◌, Bool, true, false, List, length, Some, None, refl, ◌∙◌, sym, ap, subst, arith}
 use Rattle.lx_edit.proofs.Imports.{Option, IfSome, IsTrue, is_some, ◌||◌, nat_lt, false≢true, length-append, CUES, entry_at, has_entry}
-use Rattle.lx_edit.proofs.Imports.{taken_out, entries_below, entries_above, Cue, Group, Sub, Show, Valid, ValidCue, ValidGroup, ValidSub, ValidPatchRow}
+use Rattle.lx_edit.proofs.Imports.{AllByRecursion, IsStrictlySorted, taken_out, entries_below, entries_above, Cue, Show, Valid, ValidCue}
 use Rattle.lx_edit.proofs.Imports.{cue_of, tracked, with_cue, lt_true, below_and_above, entry_at-placed_here, entry_at-placed_other, find_has, found_number}
-use Rattle.lx_edit.proofs.Imports.{found_valid, has_placed, length-placed_there, one_between, exchanged_at, CanExchange, CanPlace, IsAbove, KeepsAbove}
+use Rattle.lx_edit.proofs.Imports.{found_valid, has_placed, length-placed_there, one_between, exchanged_at, CanExchange, CanPlace, IsAbove}
 use Rattle.lx_edit.proofs.Imports.{changed_show, with_above, TakesBack, cue_instead}
-use Rattle.lx_spec.specs.declared.PatchRow.{PatchRow}
 use Rattle.lx_edit.specs.declared.plans.Plan.TheVariants as plans
+use Rattle.lx_edit.proofs.ChangedColumns.{IsAlone}
 use Rattle.lx_edit.proofs.Lists.{if_found, with_some}
 use Rattle.lx_edit.proofs.SameLists.{exchanged_back, exchanged_here, exchanged_other, both_back, found_here}
 
@@ -119,61 +119,43 @@ cues_back show one after n new above old old_above one_is is old_is above_is val
     (cue_back show n new above valid ready.least ready.number ready.higher)
 
 -- where the cue above keeps its levels it does so on the way back
-pub alone_kept : (show one after : Show) (cue above : Cue) (old old_above : Option Cue) → one ≡ with_cue show cue → after ≡ with_cue one above
-    → old ≡ cue_of show cue.number → old_above ≡ cue_of one above.number → Valid show → 1 ≤ cue.number
-    → KeepsAbove show (with_cue show cue) cue.number above → TakesBack show after (plans.Cue cue.number old old_above true)
-alone_kept show one after cue above old old_above one_is is old_is above_is valid least keeps =
+pub alone_back : {show one after : Show} {cue above : Cue} {n end : ℕ} {old old_above : Option Cue} → IsAlone show cue above n end
+    → one ≡ with_cue show cue → after ≡ with_cue one above → old ≡ cue_of show n → old_above ≡ cue_of one end
+    → TakesBack show after (plans.Cue n old old_above true)
+alone_back {show} {one} {after} {cue} {above} {n} {end} {old} {old_above} a one_is is old_is above_is =
     let key : Cue → ℕ = λ x. x.number in
-    let here : IsAbove show cue.number above = record { there = keeps.above; higher = keeps.higher } in
-    let all : TakesBack show (with_cue (with_cue show cue) above) (plans.Cue cue.number (cue_of show cue.number) (cue_of show above.number) true) =
-    with_some (cue_of show cue.number) keeps.cue (λ first first_is. with_some (cue_of show above.number) keeps.above (λ second second_is.
-    let takes = cue_back show cue.number (Some cue) (Some above) valid least refl here in
-    let takes_known : TakesBack show (with_cue (with_cue show cue) above) (plans.Cue cue.number (Some first) (Some second) false) =
-    rw (← first_is, ← second_is) takes in
+    let keeps = a.keeps in
+    let here : IsAbove show n above = record { there = keeps.above; higher = keeps.higher } in
+    let all : TakesBack show (with_cue (with_cue show cue) above) (plans.Cue n (cue_of show n) (cue_of show above.number) true) =
+    with_some (cue_of show n) keeps.cue (λ first first_is. with_some (cue_of show above.number) keeps.above (λ second second_is.
+    let takes : TakesBack show (with_cue (with_cue show cue) above) (plans.Cue n (Some first) (Some second) false) =
+    rw (← first_is, ← second_is) (cue_back show n (Some cue) (Some above) a.valid a.least a.number here) in
     let same : above.number ≡ second.number = found_number key above.number show.cues second second_is in
     rw (first_is, second_is) (record {
       ready = record {
-        least = takes_known.ready.least;
-        number = takes_known.ready.number;
-        fits = takes_known.ready.fits;
-        above_fits = takes_known.ready.above_fits;
-        higher = takes_known.ready.higher;
+        least = takes.ready.least;
+        number = takes.ready.number;
+        fits = takes.ready.fits;
+        above_fits = takes.ready.above_fits;
+        higher = takes.ready.higher;
         kept = λ kept. record {
-          cue = has_placed key cue.number above (with_cue show cue).cues (has_placed key cue.number cue show.cues keeps.cue);
-          above = takes_known.ready.higher.there;
-          higher = takes_known.ready.higher.higher;
-          levels = λ m c range le. ap (λ (s : Show). tracked s m c) takes_known.back
+          cue = has_placed key n above (with_cue show cue).cues (has_placed key n cue show.cues keeps.cue);
+          above = takes.ready.higher.there;
+          higher = takes.ready.higher.higher;
+          levels = λ m c range le. ap (λ (s : Show). tracked s m c) takes.back
               ∙ sym (keeps.levels m c range (subst (λ k. k ≤ m) (sym same) le));
         };
       };
-      back = takes_known.back;
+      back = takes.back;
     }))) in
-    rw (is, old_is, above_is, one_is, above_stays show show cue.number (Some cue) above refl here) all
+    rw (is, old_is, above_is, one_is, ← a.end_is, above_stays show show n (Some cue) above a.number here) all
 
--- Groups, submasters and patch rows.
-pub groups_back : (show after : Show) (g : ℕ) (new old : Option Group)
-    → after ≡ record show { groups = exchanged_at (λ (x : Group). x.number) g new show.groups } → old ≡ entry_at (λ x. x.number) g show.groups
-    → Valid show → IfSome new (λ group. group.number ≡ g) → TakesBack show after (plans.Group g old)
-groups_back show after g new old is old_is valid number = rw (is, old_is) (record {
-  ready = (found_here (λ (x : Group). x.number) g show.groups, find_has (ValidGroup show.channels) _ show.groups valid.groups);
-  back = ap (λ (groups : List Group). record show { groups = groups })
-      (exchanged_back (λ (x : Group). x.number) g new _ show.groups refl valid.groups_sorted number);
-})
+-- an entry changed, or gone, and back again: of groups, submasters and patch rows
+pub record GoesBack {A : Type 0} (key : A → ℕ) (P : A → Type 0) (n : ℕ) (new : Option A) (xs : List A) : Type 0 where
+  pub ready : IfSome (entry_at key n xs) (λ x. key x ≡ n) × IfSome (entry_at key n xs) P
+  pub back : exchanged_at key n (entry_at key n xs) (exchanged_at key n new xs) ≡ xs
 
-pub subs_back : (show after : Show) (s : ℕ) (new old : Option Sub)
-    → after ≡ record show { subs = exchanged_at (λ (x : Sub). x.number) s new show.subs } → old ≡ entry_at (λ x. x.number) s show.subs
-    → Valid show → IfSome new (λ submaster. submaster.number ≡ s) → TakesBack show after (plans.Sub s old)
-subs_back show after s new old is old_is valid number = rw (is, old_is) (record {
-  ready = (found_here (λ (x : Sub). x.number) s show.subs, find_has (ValidSub show.channels) _ show.subs valid.subs);
-  back = ap (λ (subs : List Sub). record show { subs = subs })
-      (exchanged_back (λ (x : Sub). x.number) s new _ show.subs refl valid.subs_sorted number);
-})
-
-pub rows_back : (show after : Show) (e : ℕ) (new old : Option PatchRow)
-    → after ≡ record show { patch = exchanged_at (λ (x : PatchRow). x.dimmer) e new show.patch } → old ≡ entry_at (λ x. x.dimmer) e show.patch
-    → Valid show → IfSome new (λ row. row.dimmer ≡ e) → TakesBack show after (plans.Row e old)
-rows_back show after e new old is old_is valid number = rw (is, old_is) (record {
-  ready = (found_here (λ (x : PatchRow). x.dimmer) e show.patch, find_has (ValidPatchRow show.channels) _ show.patch valid.patch);
-  back = ap (λ (patch : List PatchRow). record show { patch = patch })
-      (exchanged_back (λ (x : PatchRow). x.dimmer) e new _ show.patch refl valid.patch_sorted number);
-})
+pub goes_back : {A : Type 0} (key : A → ℕ) (P : A → Type 0) (n : ℕ) (new : Option A) (xs : List A) → AllByRecursion P xs
+    → IsStrictlySorted key xs → IfSome new (λ x. key x ≡ n) → GoesBack key P n new xs
+goes_back key P n new xs valid sorted number =
+    record { ready = (found_here key n xs, find_has P _ xs valid); back = exchanged_back key n new _ xs refl sorted number }

@@ -2,11 +2,11 @@
 use Rattle.lx_edit.proofs.Imports.{◌≡◌, ℕ, ◌-◌, ◌<◌, ◌≤◌, Bool, true, false, cond, List, [], ◌∷◌, ◌++◌, Some, None, refl}
 use Rattle.lx_edit.proofs.Imports.{◌∙◌, sym, ap, arith, Option, IfSome, find, fold, reverse, slice_get, nat_le, nat_lt, ◌==◌, not, if◌then◌else◌}
 use Rattle.lx_edit.proofs.Imports.{option_map_or, option_or, option_to_list, nat_tests, append-nil, find-append, fold-append, filter-append, IsStrictlySorted}
-use Rattle.lx_edit.proofs.Imports.{entries_below, entries_above, Cue, Show, tracked, cue_of, decides, level_in, cue_above, with_cue, entries_up_to}
+use Rattle.lx_edit.proofs.Imports.{entries_below, entries_above, Cue, Show, tracked, cue_of, decides, level_in, cue_above, entries_up_to}
 use Rattle.lx_edit.proofs.Imports.{exchanged_at, changed_show, level_from, le_false, le_true, lt_false, each, filter_none, find_both_last, find_first}
-use Rattle.lx_edit.proofs.Imports.{none_differs, some_same, subst, IsStrictlySorted-filter}
+use Rattle.lx_edit.proofs.Imports.{none_differs, some_same, subst, IsStrictlySorted-filter, filter_agree}
 use mathlib.Core.List.{reverse-cons}
-use Rattle.lx_edit.proofs.Lists.{filter_again, filter_lost, filter_same, filter_within}
+use Rattle.lx_edit.proofs.Lists.{filter_again, filter_lost, filter_within}
 use Rattle.lx_edit.proofs.SameLists.{exchanged_parts, exchanged_same, found_here}
 
 -- what the cue makes of the level that tracks into it
@@ -84,61 +84,60 @@ up_to_exchanged key n m new xs le number sorted =
     ∙ rw (filter_again (λ y. nat_le (key y) m) (λ y. nat_lt (key y) n) xs (λ y h. grind (arith, nat_tests)))
     (ap (λ ys. entries_below key n xs ++ ys) (up_to_option key n m new (entries_above key n xs) le number))
 
-below_as_up_to : (a n : ℕ) → 1 ≤ n → nat_le a (n - 1) ≡ nat_lt a n
-below_as_up_to a n least = grind (arith, nat_tests)
-
 -- the level that tracks into a number
-tracked_into : (show : Show) (n c : ℕ) → 1 ≤ n → tracked show (n - 1) c ≡ walked c 0 (entries_below (λ cue. cue.number) n show.cues)
+abbrev pub into : Show → ℕ → ℕ → ℕ
+into show n c = walked c 0 (entries_below (λ cue. cue.number) n show.cues)
+
+pub tracked_into : (show : Show) (n c : ℕ) → 1 ≤ n → tracked show (n - 1) c ≡ into show n c
 tracked_into show n c least = tracked-walked show (n - 1) c
-    ∙ ap (walked c 0) (filter_same (λ (cue : Cue). nat_le cue.number (n - 1)) (λ (cue : Cue). nat_lt cue.number n) show.cues
-    (λ cue. below_as_up_to cue.number n least))
+    ∙ ap (walked c 0) (filter_agree (λ (cue : Cue). nat_le cue.number (n - 1)) (λ (cue : Cue). nat_lt cue.number n)
+    (λ cue. grind (arith, nat_tests)) show.cues)
 
 walked_option : (c base : ℕ) (new : Option Cue) (cues : List Cue)
     → walked c base (option_to_list new ++ cues) ≡ walked c (level_from new c base) cues
 walked_option c base None cues = refl
 walked_option c base (Some cue) cues = refl
 
+none_later : (show : Show) (n : ℕ) → later show n n ≡ []
+none_later show n = filter_lost (λ (x : Cue). nat_le x.number n) (λ (x : Cue). nat_lt n x.number) show.cues (λ x h. grind (arith, nat_tests))
+
 -- the tracked level from a changed cue on: what it makes of what tracks into it, and what the cues above make of that
-pub tracked_changed : (show : Show) (n m c : ℕ) (new : Option Cue) → 1 ≤ n → n ≤ m → IfSome new (λ cue. cue.number ≡ n)
-    → IsStrictlySorted (λ x. x.number) show.cues
-    → tracked (changed_show show n new) m c ≡ walked c (level_from new c (tracked show (n - 1) c)) (later show n m)
-tracked_changed show n m c new least le number sorted =
-    let key : Cue → ℕ = λ x. x.number in
-    tracked-walked (changed_show show n new) m c
-    ∙ ap (walked c 0) (up_to_exchanged key n m new show.cues le number sorted)
-    ∙ fold-append (λ level x. through c level x) 0 (entries_below key n show.cues) (option_to_list new ++ later show n m)
-    ∙ ap (λ base. walked c base (option_to_list new ++ later show n m)) (sym (tracked_into show n c least))
-    ∙ walked_option c (tracked show (n - 1) c) new (later show n m)
+module _ (show : Show) (n m c : ℕ) (new : Option Cue) (number : IfSome new (λ cue. cue.number ≡ n)) where
+  pub tracked_changed : n ≤ m → IsStrictlySorted (λ x. x.number) show.cues
+      → tracked (changed_show show n new) m c ≡ walked c (level_from new c (into show n c)) (later show n m)
+  tracked_changed le sorted =
+      let key : Cue → ℕ = λ x. x.number in
+      tracked-walked (changed_show show n new) m c
+      ∙ ap (walked c 0) (up_to_exchanged key n m new show.cues le number sorted)
+      ∙ fold-append (λ level x. through c level x) 0 (entries_below key n show.cues) (option_to_list new ++ later show n m)
+      ∙ walked_option c (into show n c) new (later show n m)
 
--- below it nothing is changed
-pub tracked_below : (show : Show) (n m c : ℕ) (new : Option Cue) → m < n → IfSome new (λ cue. cue.number ≡ n)
-    → tracked (changed_show show n new) m c ≡ tracked show m c
-tracked_below show n m c new less number = tracked-walked (changed_show show n new) m c
-    ∙ ap (walked c 0) (up_to_below (λ (x : Cue). x.number) n m new show.cues less number) ∙ sym (tracked-walked show m c)
+  -- below it nothing is changed
+  pub tracked_below : m < n → tracked (changed_show show n new) m c ≡ tracked show m c
+  tracked_below less = tracked-walked (changed_show show n new) m c
+      ∙ ap (walked c 0) (up_to_below (λ (x : Cue). x.number) n m new show.cues less number) ∙ sym (tracked-walked show m c)
 
-pub tracked_below-with_cue : (show : Show) (cue : Cue) (m c : ℕ) → m < cue.number → tracked (with_cue show cue) m c ≡ tracked show m c
-tracked_below-with_cue show cue m c less = tracked_below show cue.number m c (Some cue) less refl
+-- and at its own number
+pub tracked_here : (show : Show) (n c : ℕ) (new : Option Cue) → IfSome new (λ cue. cue.number ≡ n) → IsStrictlySorted (λ x. x.number) show.cues
+    → tracked (changed_show show n new) n c ≡ level_from new c (into show n c)
+tracked_here show n c new number sorted =
+    tracked_changed show n n c new number (omega arith) sorted ∙ ap (walked c (level_from new c (into show n c))) (none_later show n)
 
 -- a cue that is there, or isn't, changed to itself
 pub same_show : (show : Show) (n : ℕ) → IsStrictlySorted (λ x. x.number) show.cues → changed_show show n (cue_of show n) ≡ show
 same_show show n sorted = ap (λ (cues : List Cue). record show { cues = cues }) (exchanged_same (λ (x : Cue). x.number) n show.cues sorted)
 
--- the tracked level from a number on, by what comes at the number
-pub tracked_split : (show : Show) (n m c : ℕ) → 1 ≤ n → n ≤ m → IsStrictlySorted (λ x. x.number) show.cues
-    → tracked show m c ≡ walked c (level_from (cue_of show n) c (tracked show (n - 1) c)) (later show n m)
-tracked_split show n m c least le sorted =
-    ap (λ (s : Show). tracked s m c) (sym (same_show show n sorted))
-    ∙ tracked_changed show n m c (cue_of show n) least le (found_here (λ (x : Cue). x.number) n show.cues) sorted
+-- the tracked level from a number on, by what comes at the number; at it; and by the level that is tracked at it
+module _ (show : Show) (n c : ℕ) (sorted : IsStrictlySorted (λ x. x.number) show.cues) where
+  pub tracked_split : (m : ℕ) → n ≤ m → tracked show m c ≡ walked c (level_from (cue_of show n) c (into show n c)) (later show n m)
+  tracked_split m le = ap (λ (s : Show). tracked s m c) (sym (same_show show n sorted))
+      ∙ tracked_changed show n m c (cue_of show n) (found_here (λ (x : Cue). x.number) n show.cues) le sorted
 
--- and by the level that is tracked at it
-pub tracked_on : (show : Show) (n m c : ℕ) → 1 ≤ n → n ≤ m → IsStrictlySorted (λ x. x.number) show.cues
-    → tracked show m c ≡ walked c (tracked show n c) (later show n m)
-tracked_on show n m c least le sorted =
-    let base = level_from (cue_of show n) c (tracked show (n - 1) c) in
-    let none : later show n n ≡ [] = filter_lost (λ (x : Cue). nat_le x.number n) (λ (x : Cue). nat_lt n x.number) show.cues
-    (λ x h. grind (arith, nat_tests)) in
-    tracked_split show n m c least le sorted
-    ∙ ap (λ level. walked c level (later show n m)) (sym (tracked_split show n n c least (omega arith) sorted ∙ ap (walked c base) none))
+  pub tracked_at : tracked show n c ≡ level_from (cue_of show n) c (into show n c)
+  tracked_at = tracked_split n (omega arith) ∙ ap (walked c (level_from (cue_of show n) c (into show n c))) (none_later show n)
+
+  pub tracked_on : (m : ℕ) → n ≤ m → tracked show m c ≡ walked c (tracked show n c) (later show n m)
+  tracked_on m le = tracked_split m le ∙ ap (λ level. walked c level (later show n m)) (sym tracked_at)
 
 -- a list that begins with what is found first
 begins : {A : Type 0} (key : A → ℕ) (x : A) (ys : List A) → slice_get ys 0 ≡ Some x → IsStrictlySorted key ys

@@ -6,7 +6,7 @@ pub use Rattle.lx_spec.specs.SortedList.{entry_at, has_entry, IsStrictlySorted}
 pub use Rattle.lx_spec.specs.TrackedLevel.{move_in, cue_of, tracked, cue_above, decides, asserts}
 pub use Rattle.lx_spec.specs.EditedShow.{the_cue, the_part, the_given_part, the_channels, the_group, the_moves, channels_in, with_cue}
 pub use Rattle.lx_spec.specs.EditedShow.{without_cue, moves_for, with_time, cue_only, with_moves, part_for, without_moves, with_members}
-pub use Rattle.lx_spec.specs.EditedShow.{set_or_new, all_at, in_proportion, with_levels}
+pub use Rattle.lx_spec.specs.EditedShow.{set_or_new, all_at, in_proportion, with_levels, missing_moves}
 pub use Rattle.lx_sheet.specs.SheetMeaning.{RowsStandFor}
 pub use Rattle.lx_io.specs.Causes.{HasCause, HasCauseOf}
 pub use Rattle.lx_sheet.specs.Rows.{level_of}

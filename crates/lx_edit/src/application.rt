@@ -10,9 +10,9 @@ use crate::chan_set::ChanSet;
 use crate::dirty::Dirty;
 use crate::marks::{changes_asserts, mark_change, mark_move, mark_within};
 use crate::plans::Plan;
-use lx_base::{CHANNELS, ChanRange, CueNo, Dimmer, GroupNo, SubNo};
+use lx_base::{CHANNELS, ChanRange, CueNo};
 use lx_sheet::Sheet;
-use lx_show::{Cue, Group, Move, MoveList, PatchRow, Show, Sub};
+use lx_show::{Cue, Move, MoveList, Show};
 
 /// A plan that was applied: what it touched, and the plan that takes it back.
 #[derive(Drop)]
@@ -91,48 +91,27 @@ impl Plan {
             Plan::Moves { cue, to, within } => exchange_moves(show, sheet, cue, to, within),
             Plan::Group { number, to } => Exchanged {
                 dirty: Dirty::apart(None, false),
-                undo: exchange_group(show, number, to),
+                undo: Plan::Group {
+                    number,
+                    to: show.exchange_group(number, to),
+                },
             },
             Plan::Sub { number, to } => Exchanged {
                 dirty: Dirty::apart(None, true),
-                undo: exchange_sub(show, number, to),
+                undo: Plan::Sub {
+                    number,
+                    to: show.exchange_sub(number, to),
+                },
             },
             Plan::Row { dimmer, to } => Exchanged {
                 dirty: Dirty::apart(Some(dimmer), false),
-                undo: exchange_row(show, dimmer, to),
+                undo: Plan::Row {
+                    dimmer,
+                    to: show.exchange_patch(dimmer, to),
+                },
             },
         }
     }
-}
-
-/// Makes the group of the number this one, or none, and answers what takes that back.
-fn exchange_group(show: &mut Show, number: GroupNo, to: Option<Group>) -> Plan
-    requires { IsReady show.old (Plan.Group number to) }
-    ensures show { show.new ≡ planned show.old (Plan.Group number to) }
-    ensures undo { TakesBack show.old show.new result }
-{
-    let old = show.exchange_group(number, to);
-    Plan::Group { number, to: old }
-}
-
-/// Makes the submaster of the number this one, or none, and answers what takes that back.
-fn exchange_sub(show: &mut Show, number: SubNo, to: Option<Sub>) -> Plan
-    requires { IsReady show.old (Plan.Sub number to) }
-    ensures show { show.new ≡ planned show.old (Plan.Sub number to) }
-    ensures undo { TakesBack show.old show.new result }
-{
-    let old = show.exchange_sub(number, to);
-    Plan::Sub { number, to: old }
-}
-
-/// Makes the dimmer's row this one, or none, and answers what takes that back.
-fn exchange_row(show: &mut Show, dimmer: Dimmer, to: Option<PatchRow>) -> Plan
-    requires { IsReady show.old (Plan.Row dimmer to) }
-    ensures show { show.new ≡ planned show.old (Plan.Row dimmer to) }
-    ensures undo { TakesBack show.old show.new result }
-{
-    let old = show.exchange_patch(dimmer, to);
-    Plan::Row { dimmer, to: old }
 }
 
 /// Cue only: places both cues, of which the one above keeps its levels.

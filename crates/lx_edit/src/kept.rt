@@ -1,6 +1,6 @@
 //! Cue only: the cue above the edited one keeps each level that it had. And cues deleted.
 
-ghost use Rattle.std.specs.Prelude.{◌≡◌, ℕ, true, false, ◌==◌, not, IfOk, IfSome, Some, None, if◌then◌else◌};
+ghost use Rattle.std.specs.Prelude.{◌≡◌, ℕ, ◌-◌, true, false, ◌==◌, not, IfOk, IfSome, Some, None, if◌then◌else◌, unwrap_or};
 ghost use Rattle.lx_edit.specs.Imports.{option_copied, HasCause, HasCauseOf, ValidCue, tracked, cue_above, cue_only, with_cue, with_moves};
 ghost use Rattle.lx_edit.specs.Imports.{moves_for, FoundCue, changed_show, Plans, PlansCues, CanPlace, IsAbove, KeepsAbove, SameOutside};
 ghost use Rattle.lx_edit.specs.Imports.{covers, with_above, DecidesOutside, decided, decided_by};
@@ -187,7 +187,15 @@ fn differs(
     if above.decides_near(c, near) {
         return false;
     }
-    match (decided_by(Some(old), c), decided_by(new, c)) {
+    is_other(show, n, c, decided_by(Some(old), c), decided_by(new, c))
+}
+
+/// What was decided for the channel at the number, or else tracked into it, is another level than what is decided now, or else
+/// tracks into it.
+fn is_other(show: &Show, n: CueNo, c: Chan, was: Option<Level>, is: Option<Level>) -> bool
+    ensures { result ≡ not (unwrap_or was (tracked show.now (n - 1) c) == unwrap_or is (tracked show.now (n - 1) c)) }
+{
+    match (was, is) {
         (None, None) => false,
         (Some(was), Some(is)) => was != is,
         (Some(was), None) => was != show.tracked(below(n), c),

@@ -1,11 +1,10 @@
 //! Edits of the members of a group or a submaster, which is made where it is absent.
 
-ghost use Rattle.std.specs.Prelude.{◌≡◌, ℕ, ◌≤◌, IfOk, OnOk, unwrap_or};
-ghost use Rattle.lx_edit.specs.Imports.{AllByRecursion, HasCause, HasCauseOf, ValidMembers, ValidGroup, ValidSub, with_members, set_or_new};
-ghost use Rattle.lx_edit.specs.Imports.{Plans};
+ghost use Rattle.std.specs.Prelude.{◌≡◌, IfOk, OnOk, unwrap_or};
+ghost use Rattle.lx_edit.specs.Imports.{HasCause, HasCauseOf, ValidMembers, ValidGroup, ValidSub, all_at, channels_in, with_members};
+ghost use Rattle.lx_edit.specs.Imports.{set_or_new, IsWithin, Plans};
 
-use crate::absent::the_channels;
-use crate::moves::all_at;
+use crate::absent::{channel, the_channels};
 use crate::plans::Plan;
 use lx_base::{ChanRange, GroupNo, Level, SubNo};
 use lx_io::Heap;
@@ -24,14 +23,8 @@ pub(crate) fn group_member<H: Heap>(
     ensures cause { HasCauseOf Refusal.Memory (H.refusals heap.old) (H.refusals heap.new) result }
 {
     the_channels(show, range)?;
-    let members = all_at(heap, range, level)?;
     let mut group = group_or_new(heap, show, g)?;
-    put_members(
-        heap,
-        show.channels(),
-        &mut group.members,
-        members.as_slice(),
-    )?;
+    put_members(heap, show.channels(), &mut group.members, range, level)?;
     Ok(Plan::Group {
         number: g,
         to: Some(group),
@@ -50,9 +43,8 @@ pub(crate) fn sub_member<H: Heap>(
     ensures cause { HasCauseOf Refusal.Memory (H.refusals heap.old) (H.refusals heap.new) result }
 {
     the_channels(show, range)?;
-    let members = all_at(heap, range, level)?;
     let mut sub = sub_or_new(heap, show, s)?;
-    put_members(heap, show.channels(), &mut sub.members, members.as_slice())?;
+    put_members(heap, show.channels(), &mut sub.members, range, level)?;
     Ok(Plan::Sub {
         number: s,
         to: Some(sub),
@@ -85,22 +77,27 @@ fn sub_or_new<H: Heap>(heap: &mut H, show: &Show, s: SubNo) -> Result<Sub, Alloc
     }
 }
 
-/// Places the members, each in the place of the one of its channel. An error comes where memory runs out.
+/// Places the channels of the range at the level, each in the place of the member of its channel. An error comes where memory runs out.
 fn put_members<H: Heap>(
     heap: &mut H,
     channels: u32,
     list: &mut MemberList,
-    members: &[Member],
+    range: ChanRange,
+    level: Level,
 ) -> Result<(), AllocError>
     requires valid { ValidMembers channels list.old }
-    requires within { AllByRecursion (λ m. m.chan ≤ channels) members.now }
-    ensures members { OnOk result (list.new ≡ with_members list.old members.now) }
+    requires within { IsWithin channels range }
+    ensures members { OnOk result (list.new ≡ with_members list.old (all_at level (channels_in range))) }
     ensures valid { OnOk result (ValidMembers channels list.new) }
     ensures cause { HasCause (H.refusals heap.old) (H.refusals heap.new) result }
 {
-    for member in members {
-        facts::of_member(member);
-        list.put(heap, *member)?;
+    let first = range.first().get();
+    let last = range.last().get();
+    for n in first..last + 1 {
+        let chan = channel(n);
+        let member = Member { chan, level };
+        facts::of_member(&member);
+        list.put(heap, member)?;
     }
     Ok(())
 }

@@ -1,17 +1,13 @@
 -- Whether bytes are one line, told by runs of them.
-use Rattle.lx_embed.proofs.Imports.{◌≡◌, ◌≤◌, ◌<◌, ◌+◌, ◌⊎◌, ◌∷◌, [], ℕ, suc, zero, Bool, true, false, not, List, length}
-use Rattle.lx_embed.proofs.Imports.{refl, sym, ap, ◌∙◌, arith, inl, inr}
+use Rattle.lx_embed.proofs.Imports.{◌≡◌, ◌≤◌, ◌<◌, ◌∷◌, [], ℕ, suc, Bool, true, false, not, List, length}
+use Rattle.lx_embed.proofs.Imports.{refl, sym, ap, ◌∙◌, arith}
 use Rattle.std.specs.Prelude.{◌||◌, ◌&&◌, ◌==◌, slice_index}
 use Rattle.std.specs.List.{list_any}
 use Rattle.std.proofs.Common.{⊎_elim}
+use Rattle.std.proofs.lemmas.Bool.{cases_lt}
 use Rattle.std.proofs.lemmas.List.Folds.{list_any_at}
 use Rattle.lx_embed.specs.Answered.{is_bare}
 use Rattle.lx_embed.specs.LineEnds.{ends_line, TellsEnd}
-
-below_or_from : (k j : ℕ) → (k < j) ⊎ (j ≤ k)
-below_or_from k zero = inr (omega arith)
-below_or_from zero (suc j) = inl (omega arith)
-below_or_from (suc k) (suc j) = ⊎_elim (λ lt. inl (omega (arith, lt))) (λ le. inr (omega (arith, le))) (below_or_from k j)
 
 -- a run from the first byte on, and one that begins where it ends, or before
 pub runs_on : (bytes : List ℕ) (a b : Bool) (j k l n : ℕ) → k ≤ j → j ≤ n → l ≡ n → TellsEnd bytes 0 j a → TellsEnd bytes k l b
@@ -19,7 +15,7 @@ pub runs_on : (bytes : List ℕ) (a b : Bool) (j k l n : ℕ) → k ≤ j → j 
 runs_on bytes true b j k l n x y z s t = let within = s.2 in (s.0, s.1, omega (arith, within, y), s.3)
 runs_on bytes false true j k l n x y z s t = let within = t.2 in (t.0, omega arith, omega (arith, within, z), t.3)
 runs_on bytes false false j k l n x y z s t =
-    λ m low high. ⊎_elim (λ lt. s m low lt) (λ le. t m (omega (arith, le, x)) (omega (arith, high, z))) (below_or_from m j)
+    λ m low high. ⊎_elim (λ lt. s m low lt) (λ le. t m (omega (arith, le, x)) (omega (arith, high, z))) (cases_lt m j)
 
 regrouped : (p q a b : Bool) → (p || a) || (q || b) ≡ (p || q) || (a || b)
 regrouped true q a b = refl

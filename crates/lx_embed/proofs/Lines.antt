@@ -1,5 +1,5 @@
 -- A line that was answered, as a host's desk keeps it.
-use Rattle.lx_embed.proofs.Imports.{refl, ◌≡◌, ℕ, Bool, true, not, None, Some, Result, Ok, Err, List, [], ◌++◌, ◌∙◌, ap, sym, subst, IfOk, arith}
+use Rattle.lx_embed.proofs.Imports.{refl, ◌≡◌, ℕ, Bool, true, not, Some, Result, Ok, Err, List, [], ◌++◌, ◌∙◌, ap, sym, subst, IfOk, arith}
 use Rattle.lx_embed.proofs.Imports.{OnOk, OnErr, Kept, Desk, Answering, begin_at, ends_script, begun, desk_answering, StandsFor}
 use Rattle.std.specs.Io.{StartsWith}
 use Rattle.lx_io.specs.declared.sink.SinkFault.{SinkFault}

@@ -1,5 +1,5 @@
 -- What the reader answers for a text that is lent whole.
-use Rattle.lx_embed.proofs.Imports.{◌≡◌, ℕ, zero, suc, ◌+◌, ◌<◌, ◌≤◌, Bool, true, false, Option, None, Some, Ok, Err, IfSome, List, []}
+use Rattle.lx_embed.proofs.Imports.{◌≡◌, ℕ, zero, suc, ◌+◌, ◌<◌, ◌≤◌, Option, None, Some, Ok, Err, IfSome, List, []}
 use Rattle.lx_embed.proofs.Imports.{◌∷◌, ◌++◌, length, ◌⊎◌, inl, inr, refl, ap, ◌∙◌, subst, arith, ◌==◌, cond, reading_of, AnswerOf}
 use Rattle.std.specs.Io.KnownBytes.{IsAtEnd}
 use Rattle.std.proofs.Common.{append-nil, length-append}
@@ -20,16 +20,14 @@ use Rattle.lx_reader.specs.declared.loaded.Loaded.{Loaded}
 use Rattle.lx_reader.specs.declared.fault.ShowFault.{ShowFault}
 use Rattle.lx_reader.specs.declared.fault.ShowFault.TheVariants as faults
 use Rattle.lx_reader.specs.HandedLines.{MeansFault, IsPastLimit}
-use Rattle.lx_embed.specs.Opened.{HasFault, RefusesShow}
+use Rattle.lx_embed.specs.declared.engine.Engine.{Engine}
+use Rattle.lx_embed.specs.Engines.{OpenedAs}
+use Rattle.lx_embed.specs.Opened.{HasFault, OpensText, RefusesShow}
 
 first_lines-within : (n : ℕ) (xs : List ℕ) → length (first_lines n xs) ≤ length xs
 first_lines-within n [] = omega arith
 first_lines-within zero (x ∷ xs) = omega arith
-first_lines-within (suc n) (x ∷ xs) =
-    let either : (b : Bool) → length (x ∷ first_lines (cond b n (suc n)) xs) ≤ length (x ∷ xs) =
-    λ b. elim b as (λ b. length (x ∷ first_lines (cond b n (suc n)) xs) ≤ length (x ∷ xs))
-    [ true ↦ omega (arith, first_lines-within n xs) | false ↦ omega (arith, first_lines-within (suc n) xs) ] in
-    either (x == 10)
+first_lines-within (suc n) (x ∷ xs) = omega (arith, first_lines-within (cond (x == 10) n (suc n)) xs)
 
 -- the lines that are wanted are this many
 wanted_is : (text : List ℕ) (n : ℕ) → lines_read (lines_of text) ≡ n → length (show_wanted text) ≡ length (first_lines n text)
@@ -66,19 +64,23 @@ module _ (text : List ℕ) (form : Form) {S : Type 0} (told : ToldBySource S) (a
       let n = lines_read (lines_of text) in
       omega (arith, none, past.long, first_lines-longer (past.n + 1) n text (omega (arith, past.wanted)), wanted_is text n refl)
 
-  pub loads : (loaded : Loaded) → AnswerOf told a b form (Ok loaded) → reads form text ≡ Ok (reading_of loaded)
-  loads loaded answer = subst (λ (v : Option (List ℕ)). IfSome v (λ bytes. reads form bytes ≡ Ok (reading_of loaded))) is answer.means.text
-
   -- a show that was read is within the limit
-  pub fits : (loaded : Loaded) → AnswerOf told a b form (Ok loaded) → length (show_wanted text) ≤ INPUT_BYTES
-  fits loaded answer =
+  pub opens : (loaded : Loaded) → AnswerOf told a b form (Ok loaded) → {depth : Option ℕ} {engine : Engine} → OpenedAs depth loaded.show engine
+      → OpensText form depth text engine
+  opens loaded answer stands =
       let m = answer.means in
       let n = length m.front + 1 in
       let lines : IfSome (unread told a) (λ bytes. a.taken + length (first_lines n bytes) ≤ INPUT_BYTES) =
       lines_within (unread told a) (unread told b) a.taken b.taken (m.front ++ m.last ∷ []) n m.handed.took
       (omega (arith, length-append m.front (m.last ∷ []))) in
-      show_fits text a.taken n none (subst (λ (v : Option (List ℕ)). IfSome v (λ bytes. lines_read (lines_of bytes) ≡ n)) is m.wanted)
-      (subst (λ (v : Option (List ℕ)). IfSome v (λ bytes. a.taken + length (first_lines n bytes) ≤ INPUT_BYTES)) is lines)
+      record {
+        reading = reading_of loaded;
+        reads_as = subst (λ (v : Option (List ℕ)). IfSome v (λ bytes. reads form bytes ≡ Ok (reading_of loaded))) is m.text;
+        within = show_fits text a.taken n none
+            (subst (λ (v : Option (List ℕ)). IfSome v (λ bytes. lines_read (lines_of bytes) ≡ n)) is m.wanted)
+            (subst (λ (v : Option (List ℕ)). IfSome v (λ bytes. a.taken + length (first_lines n bytes) ≤ INPUT_BYTES)) is lines);
+        stands = stands;
+      }
 
   pub refuses : (fault : ShowFault) → AnswerOf told a b form (Err fault) → (fault ≡ faults.ReadFault → ⊥) → RefusesShow form text fault
   refuses (faults.Text fault) answer never = fault_is fault answer

@@ -10,10 +10,10 @@ ghost use Rattle.lx_spec.specs.declared.Command.TheVariants as Command;
 use crate::engine::Engine;
 use crate::open::open_text;
 use crate::reply::ReplyText;
-use crate::shown::{fader_of, frame_of, is_universe, level_of, tracked_of};
+use crate::shown::{frame_of, is_universe};
 use crate::state::{PlaybackState, state_of};
 use crate::taken::Taken;
-use lx_base::{Level, UNIVERSE_SLOTS};
+use lx_base::{Chan, CueNo, Level, SubNo, UNIVERSE_SLOTS};
 use lx_io::{Heap, SinkFault, SystemHeap};
 use lx_reader::ShowFault;
 use lx_show::Form;
@@ -150,7 +150,11 @@ impl HostDesk {
         ensures told { IsSome result ↔ ((1 ≤ channel) × (channel ≤ (console_of self.now.engine).show.channels)) }
         ensures level { IfSome result (λ level. (d : Desk) → StandsFor d (console_of self.now.engine) → level ≡ on_stage d channel) }
     {
-        level_of(self.engine.console(), channel)
+        let levels = self.engine.console().levels();
+        if channel < 1 || channel as usize > levels.len() {
+            return None;
+        }
+        Some(levels[channel as usize - 1])
     }
 
     /// The tracked level of a channel at a cue number, in thousandths, which need not be a cue's. `None` exactly where the show has no
@@ -159,7 +163,11 @@ impl HostDesk {
         ensures told { IsSome result ↔ ((cue ≤ CUE_MAX) × ((1 ≤ channel) × (channel ≤ (console_of self.now.engine).show.channels))) }
         ensures level { IfSome result (λ level. level ≡ tracked (console_of self.now.engine).show cue channel) }
     {
-        tracked_of(self.engine.console(), cue, channel)
+        let console = self.engine.console();
+        if channel > console.show().channels() {
+            return None;
+        }
+        Some(console.tracked(CueNo::new(cue)?, Chan::new(channel)?))
     }
 
     /// The fader of a submaster, which the show need not have. `None` exactly where there is no such number.
@@ -167,7 +175,7 @@ impl HostDesk {
         ensures told { IsSome result ↔ ((1 ≤ sub) × (sub ≤ SUBS)) }
         ensures level { IfSome result (λ level. level ≡ fader (console_of self.now.engine).faders sub) }
     {
-        fader_of(self.engine.console(), sub)
+        Some(self.engine.console().fader(SubNo::new(sub)?))
     }
 
     /// Where the playback stands.

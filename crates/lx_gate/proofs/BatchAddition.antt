@@ -31,37 +31,25 @@ pub adds_goes : (log v : List (List Command)) (b : List Command) (old new : ℕ)
 adds_goes log v b old new len more pre true is =
     let here : length (flat log) ≡ old = grind (arith, nat_tests) in
     let same : flat v ≡ flat log = prefix_whole (flat v) (flat log) (flat_prefix v log pre) (omega arith) in
-    let n : either (length (flat log) == old) new (length (flat log)) ≡ length (flat (log ++ b ∷ [])) =
-    rw is (omega (arith, ap length (flat-snoc log b), length-append (flat log) b)) in (
+    let n : new ≡ length (flat (log ++ b ∷ [])) = omega (arith, ap length (flat-snoc log b), length-append (flat log) b) in
+    rw is (
       keeps,
       b ∷ [],
       None,
       tt,
       record { words = ap (λ (k : ℕ). (k, true) ∷ (0, true) ∷ []) n },
       inl (refl, refl),
-      rw is (flat-snoc log b ∙ ap (λ w. w ++ b) (sym same)),
+      flat-snoc log b ∙ ap (λ w. w ++ b) (sym same),
     )
 adds_goes log v b old new len more pre false is =
-    let all : log ++ [] ≡ log = append-nil log in
-    let n : either (length (flat log) == old) new (length (flat log)) ≡ length (flat (log ++ [])) =
-    rw is (ap (λ w. length (flat w)) (sym all)) in (
-      keeps,
-      [],
-      None,
-      tt,
-      record { words = ap (λ (k : ℕ). (k, true) ∷ (0, true) ∷ []) n },
-      inl (refl, refl),
-      rw is (ap (λ w. length (flat w)) all),
-    )
+    let n : length (flat (log ++ [])) ≡ length (flat log) = ap (λ w. length (flat w)) (append-nil log) in
+    rw is (keeps, [], None, tt, record { words = ap (λ (k : ℕ). (k, true) ∷ (0, true) ∷ []) (sym n) }, inl (refl, refl), n)
 
 -- whatever the history is, the exchange adds the commands to all that was seen, or finds that the history is longer
 pub adds_moves : (v : List (List Command)) (b : List Command) (old new : ℕ) → length (flat v) ≡ old → new ≡ old + length b
     → Moves IsCounted shown moved 0 (v, (no_nib, None)) (λ n. either (n == old) new n) (Adds (step 0 old new b) (v, (no_nib, None)))
 adds_moves v b old new len more cs log kept pre away =
-    let P : List Cell → Type 0 = λ c. (0 < length c) × ((cell c 0).1 ≡ true)
-    × Goes IsCounted shown moved 0 (v, (no_nib, None)) (λ n. either (n == old) new n) (Adds (step 0 old new b) (v, (no_nib, None))) c
-    log in
-    subst P (sym kept.words) (omega arith, refl, adds_goes log v b old new len more pre (length (flat log) == old) refl)
+    rw kept.words (omega arith, refl, adds_goes log v b old new len more pre (length (flat log) == old) refl)
 
 -- where the length found isn't the one expected, what is then seen is longer
 pub adds_longer : (v w : List (List Command)) (b : List Command) (old found : ℕ) → found ≢ old → length (flat v) ≡ old → IsPrefix v w

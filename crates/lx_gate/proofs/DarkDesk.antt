@@ -53,7 +53,7 @@ map_zero : (f : ℕ → ℕ) (xs : List ℕ) → ((x : ℕ) → f x ≡ 0) → m
 map_zero f [] h = refl
 map_zero f (x ∷ xs) h = ap (λ (n : ℕ). n ∷ map f xs) (h x) ∙ ap (λ (ys : List ℕ). 0 ∷ ys) (map_zero f xs h)
 
-dark_frame : (show : Show) (u : ℕ) → Valid show → frame (opened show) u ≡ replicate {A = ℕ} 512 0
+pub dark_frame : (show : Show) (u : ℕ) → Valid show → frame (opened show) u ≡ replicate {A = ℕ} 512 0
 dark_frame show u v =
     map_zero (dimmer_value show.patch (out (opened show))) (dimmers_of u)
     (λ e. row_zero (out (opened show)) (entry_at (λ row. row.dimmer) e show.patch) (λ c. no_out show c v))

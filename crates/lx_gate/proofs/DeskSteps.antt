@@ -1,26 +1,14 @@
 -- What a gate publishes of a console.
-use Rattle.lx_gate.proofs.Imports.{◌≡◌, ℕ, ◌+◌, ◌-◌, ◌^◌, ◌<◌, ◌≤◌, List, [], ◌∷◌, ◌++◌, length, Result, Ok, Err}
-use Rattle.lx_gate.proofs.Imports.{IsOkAnd, OnOk, OnErr, sym, ap, ◌∙◌, subst, arith, length-append, append-nil, append_assoc, UNIVERSES, Command, Show}
-use Rattle.lx_gate.proofs.Imports.{Desk, replay, step, after_command, opened, frame, universe as universe_in, Published, IsEntered, HasSent, HasSentNone}
+use Rattle.lx_gate.proofs.Imports.{◌≡◌, ◌+◌, ◌-◌, ◌^◌, ◌<◌, List, [], ◌∷◌, ◌++◌, length, Result, Ok, Err, IsOkAnd, OnOk, OnErr, sym, ap, ◌∙◌}
+use Rattle.lx_gate.proofs.Imports.{subst, arith, length-append, append-nil, append_assoc, Command, Show, Desk, replay, step, after_command, opened}
+use Rattle.lx_gate.proofs.Imports.{Published, IsEntered, HasSent, HasSentNone}
 use Rattle.std.specs.Result.{result_unwrap_or}
 use Rattle.std.proofs.lemmas.Grind.{fold-append}
 use Rattle.lx_spec.specs.declared.Refusal.{Refusal}
 use Rattle.lx_spec.specs.Kept.{Kept}
 use Rattle.lx_console.specs.ConsoleMeaning.{StandsFor}
 use Rattle.lx_gate.specs.Desks.{IsInStep}
-use Rattle.lx_gate.specs.Frames.{AreFramesOf, frame_after, moment_after}
 use Rattle.lx_gate.proofs.UnsentCommands.{entered_push}
-
--- the console's frames are those that the gate wants
-pub frames_are : (show : Show) (list : List Command) (console : Kept) (slots : List ℕ) → StandsFor (replay show list) console
-    → ((d : Desk) (u : ℕ) → StandsFor d console → 1 ≤ u → u ≤ UNIVERSES → universe_in u slots ≡ frame d u) → AreFramesOf show list slots
-unfolding AreFramesOf frame_after
-frames_are show list console slots stands frames = λ u low high. frames (replay show list) u stands low high
-
-pub moment_is : (show : Show) (list : List Command) (console : Kept) → StandsFor (replay show list) console
-    → console.playback.moment ≡ moment_after show list
-unfolding moment_after
-moment_is show list console stands = ap (λ (k : Kept). k.playback.moment) stands.same
 
 next_stands : (d : Desk) (r : Result Desk Refusal) (console : Kept) → IsOkAnd r (λ next. StandsFor next console)
     → StandsFor (result_unwrap_or r d) console
@@ -57,13 +45,9 @@ in_step_over show gate gate' unsent unsent' console h same entered = record {
   entered = entered;
 }
 
-sent_none_same : (gate gate' : Published) (unsent unsent' : List Command)
-    → HasSentNone gate unsent gate' unsent' → gate'.published ++ unsent' ≡ gate.published ++ unsent
-sent_none_same gate gate' unsent unsent' h = ap (λ l. l ++ unsent') h.0 ∙ ap (λ l. gate.published ++ l) h.1
-
 -- whatever the answer, the same commands are published and unsent
 pub answered_same : {A E : Type 0} (answer : Result A E) (gate gate' : Published) (unsent unsent' : List Command)
     → OnOk answer (HasSent gate unsent gate' unsent') → OnErr answer (HasSentNone gate unsent gate' unsent')
     → gate'.published ++ unsent' ≡ gate.published ++ unsent
 answered_same (Ok a) gate gate' unsent unsent' ok err = ap (λ l. gate'.published ++ l) ok.1 ∙ (append-nil gate'.published ∙ ok.0)
-answered_same (Err e) gate gate' unsent unsent' ok err = sent_none_same gate gate' unsent unsent' err
+answered_same (Err e) gate gate' unsent unsent' ok err = ap (λ l. l ++ unsent') err.0 ∙ ap (λ l. gate.published ++ l) err.1

@@ -1,14 +1,9 @@
 -- Unsent commands of which the history has some already.
-use Rattle.lx_gate.proofs.Imports.{◌≡◌, ◌-◌, ◌≤◌, List, [], ◌∷◌, ◌++◌, length, drop, refl, sym, ap, ◌∙◌, arith, append_assoc}
+use Rattle.lx_gate.proofs.Imports.{◌≡◌, ◌-◌, ◌≤◌, List, [], ◌∷◌, ◌++◌, length, drop, sym, ap, ◌∙◌, arith, append_assoc}
 use Rattle.lx_gate.proofs.Imports.{length-append, append-nil, Command, Published, IsEntered}
+use Rattle.std.proofs.Math.Seq.{drop-append_seam}
+use Rattle.std.proofs.lemmas.List.{append_cancel_left}
 use Rattle.lx_gate.proofs.Prefixes.{prefix_length}
-
-drop_append : {A : Type 0} (xs ys : List A) → drop (length xs) (xs ++ ys) ≡ ys
-drop_append [] ys = refl
-drop_append (x ∷ xs) ys = drop_append xs ys
-
-append_cancel : {A : Type 0} (xs ys zs : List A) → xs ++ ys ≡ xs ++ zs → ys ≡ zs
-append_cancel xs ys zs h = sym (drop_append xs ys) ∙ (ap (drop (length xs)) h ∙ drop_append xs zs)
 
 -- what the history lacks of the unsent commands, after those that it has
 pub entered_whole : (g : Published) (unsent : List Command) → IsEntered g unsent
@@ -16,12 +11,10 @@ pub entered_whole : (g : Published) (unsent : List Command) → IsEntered g unse
 entered_whole g unsent h =
     let b = h.begins.0 in
     let r = h.rest.0 in
-    let tail : b ++ r ≡ unsent = append_cancel g.published (b ++ r) unsent
+    let tail : b ++ r ≡ unsent = append_cancel_left g.published (b ++ r) unsent
     (sym (append_assoc g.published b r) ∙ (ap (λ w. w ++ r) h.begins.1 ∙ h.rest.1)) in
     let n : length g.entered - length g.published ≡ length b = omega (arith, sym (ap length h.begins.1) ∙ length-append g.published b) in
-    let rest : drop (length g.entered - length g.published) unsent ≡ r = ap (λ k. drop k unsent) n
-    ∙ (ap (drop (length b)) (sym tail) ∙ drop_append b r) in
-    ap (λ w. g.entered ++ w) rest ∙ h.rest.1
+    ap (λ w. g.entered ++ w) (ap (λ k. drop k unsent) n ∙ ap (drop (length b)) (sym tail) ∙ drop-append_seam b r) ∙ h.rest.1
 
 -- this many of the unsent commands the history has
 pub entered_known : (g : Published) (unsent : List Command) → IsEntered g unsent → length g.entered - length g.published ≤ length unsent

@@ -1,5 +1,5 @@
 -- What a handle leads to, as a box at its types.
-use Rattle.lx_host.proofs.Imports.{◌≡◌, ℕ, List, [], ◌∷◌, ◌++◌, refl, subst, Bool, true, false, is_some, impl, tnil, dnil, Val, vptr, vstruct}
+use Rattle.lx_host.proofs.Imports.{◌≡◌, ℕ, List, [], ◌∷◌, ◌++◌, refl, subst, true, is_some, impl, tnil, dnil, Val, vptr, vstruct}
 use Rattle.lx_host.proofs.Imports.{vcons, vnil, of_list, never, fst∗, sem, Item, Goal, Seq, Step, step, ‵, ◌$◌, drop, fsplit, fjoin, fpick, fpack}
 use Rattle.lx_host.proofs.Imports.{rewrite, feq_i, feq_l, Ura, Logic, Valss, Ptr, block_ptr, null_ptr, ptr_val, in_a_block, Slot, plain, nothing, within, shape}
 use Rattle.lx_host.proofs.Imports.{Option, None, Some, Bx, τ, handle_owns, boxed}
@@ -12,10 +12,6 @@ use Rattle.lx_embed.specs.contracts.desk.HostDesk as Host
 use Rattle.lx_embed.proofs.desk.HostDesk.TheLaws as host
 use Rattle.lx_host.specs.contracts.parts.Parts as Parts
 use Rattle.lx_host.specs.contracts.handle.Handle as Handle
-
-abbrev IsFalse : Bool → Type 0
-IsFalse true = ⊥
-IsFalse false = Unit {0}
 
 abbrev pub E : Bx
 E = record { row = Host.the_row; laws = host.the_row_laws; al = record { row = Heap.the_row; laws = heap.the_row_laws; g = ghosts; d = dict; drops = impl [] tnil dnil } }
@@ -32,7 +28,7 @@ FromHeap = plain (λ _. Heap.the_row)
 -- what stands in an option that is told to hold something
 pub value_of : {X : Type 0} (o : Option X) → is_some o ≡ true → (x : X) × (o ≡ Some x)
 value_of (Some x) e = (x, refl)
-value_of None e = absurd (subst IsFalse e tt)
+value_of None e = absurd cc
 
 -- the machine value of a handle
 abbrev pub one : Val → Val

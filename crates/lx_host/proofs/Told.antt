@@ -1,5 +1,5 @@
 -- A refused show is told by the report of its fault.
-use Rattle.lx_host.proofs.Imports.{◌≡◌, inl, inr, ℕ, ◌<◌, List, length, refl, sym, subst, arith, Form, Refused}
+use Rattle.lx_host.proofs.Imports.{◌≡◌, inl, inr, ℕ, ◌<◌, List, length, refl, arith, Form, Refused}
 use Rattle.lx_base.specs.declared.TheConstants.{INPUT_BYTES}
 use Rattle.lx_reader.specs.declared.fault.ShowFault.{ShowFault}
 use Rattle.lx_reader.specs.declared.fault.ShowFault.TheVariants as faults
@@ -56,5 +56,4 @@ by_itself form text faults.Memory before by = record {
 pub fault_told : (form : Form) (text : List ℕ) (fault : ShowFault) (s : ℕ) (before now : ShowReport) → s ≡ fault_status fault
     → now ≡ show_report fault → RefusesShow form text fault → IsTold form text fault s before now
 fault_told form text fault s before now is set by =
-    subst (λ (n : ℕ). IsTold form text fault n before now) (sym is)
-    (subst (λ (r : ShowReport). IsTold form text fault (fault_status fault) before r) (sym set) (by_itself form text fault before by))
+    rw (is, set) (by_itself form text fault before by)

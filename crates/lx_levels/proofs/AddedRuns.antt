@@ -1,9 +1,10 @@
 -- A run that is added to levels which stood for the playback before it.
-use Rattle.lx_levels.proofs.Imports.{◌≡◌, ℕ, ◌+◌, ◌-◌, ◌*◌, ◌/◌, ◌<◌, ◌≤◌, nat_lt, nat_le, Bool, true, false, cond, Option}
-use Rattle.lx_levels.proofs.Imports.{Some, None, List, [], ◌∷◌, length, reverse, refl, get_or-reverse, length-reverse, arith, get_or, ◌∙◌, ap, sym, subst}
-use Rattle.lx_levels.proofs.Imports.{inl, inr, cases_eq, cases_lt, Show, tracked, Run, acts, delay_of, time_of, level, last_cue, run_over, fade_over, faded}
-use Rattle.lx_levels.proofs.Imports.{moved_towards, rises_to, Playback, KeptLevels, stack_level, kept_stack, IsStill, StackStandsAt, StandsBefore}
-use Rattle.lx_levels.proofs.Imports.{IsElsewhere, IsAdded, IsKnown, Act, act_over}
+use Rattle.lx_levels.proofs.Imports.{◌≡◌, ℕ, ◌+◌, ◌-◌, ◌*◌, ◌/◌, ◌<◌, ◌≤◌, nat_lt, nat_le, Bool, true, false, cond, Some, None, List, [], ◌∷◌, length}
+use Rattle.lx_levels.proofs.Imports.{reverse, refl, get_or-reverse, length-reverse, arith, get_or, ◌∙◌, ap, sym, subst, inl, inr, cases_eq, cases_lt}
+use Rattle.lx_levels.proofs.Imports.{Show, tracked, Run, acts, delay_of, time_of, level, last_cue, run_over, fade_over, faded, moved_towards}
+use Rattle.lx_levels.proofs.Imports.{rises_to, Playback, KeptLevels, stack_level, kept_stack, IsStill, StackStandsAt, StandsBefore, IsElsewhere}
+use Rattle.lx_levels.proofs.Imports.{IsAdded, IsKnown, Act, act_over}
+use Rattle.lx_spec.proofs.Comparisons.{le_true}
 use Rattle.lx_levels.proofs.Stands.{same_stack}
 use Rattle.lx_levels.proofs.HiddenRuns.{level_passed, level_pushed}
 
@@ -35,16 +36,12 @@ added_row {k = k} n added here = record {
 
 -- a channel that stays at a level does so over a run to that level
 faded_nowhere : (v gone time : ℕ) → faded v v gone time ≡ v
-faded_nowhere v gone time = elim (nat_le time gone) as (λ b. cond b v (moved_towards v v gone time) ≡ v) [ true ↦ refl | false ↦ moved ]
-  where
-    none : (v - v) * gone / time ≡ 0
-    none = ap (λ d. d * gone / time) (let e : v - v ≡ 0 = omega arith in e) ∙ grind arith
-
-    moved : moved_towards v v gone time ≡ v
-    moved = elim (nat_le v v) as (λ b. cond b (v - (v - v) * gone / time) (v + (v - v) * gone / time) ≡ v) [
-      | true ↦ omega (arith, none)
-      | false ↦ omega (arith, none)
-    ]
+faded_nowhere v gone time = elim (nat_le time gone) as (λ b. cond b v (moved_towards v v gone time) ≡ v) [
+  | true ↦ refl
+  | false ↦ rw (le_true v v (omega arith)) (omega (arith, none))
+] where
+  none : (v - v) * gone / time ≡ 0
+  none = ap (λ d. d * gone / time) (let e : v - v ≡ 0 = omega arith in e) ∙ grind arith
 
 run_nowhere : (show : Show) (before : ℕ → ℕ) (run : Run) (c from x v : ℕ) → ((y : ℕ) → from ≤ y → before y ≡ v) → from ≤ run.start
     → from ≤ x → tracked show run.cue c ≡ v → run_over show before run c x ≡ v
@@ -60,17 +57,12 @@ run_nowhere show before run c from x v still starts late target = over (rises_to
             ∙ faded_nowhere v (x - begins) (time_of show run c b)
       ]
 
--- what is known of a run that is named otherwise
-pub known_as : {show : Show} {b n c d : ℕ} {run last : Run} {known : Option Act} → IsKnown show b run c known → b ≡ n → run ≡ last → c ≡ d
-    → IsKnown show n last d known
-known_as known from is at = rw (← from, ← is, ← at) known
-
 pub same_run_copied : (run last : Run) → Some run ≡ Some last → run ≡ last
 same_run_copied run last same = cc
 
 -- a channel whose stack stood for the playback before its last run, and stands for it now
-module _ {show : Show} {p : Playback} {before : KeptLevels} (kept : KeptLevels) {k : ℕ} (stood : StandsBefore show p before) (within : k < show.channels)
-    (left : kept_stack kept k ≡ kept_stack before k) where
+module _ {show : Show} {p : Playback} {before : KeptLevels} (kept : KeptLevels) {k : ℕ} (stood : StandsBefore show p before)
+    (within : k < show.channels) (left : kept_stack kept k ≡ kept_stack before k) where
   old : StackStandsAt show (record p { live = stood.older }) kept k
   old = same_stack show (record p { live = stood.older }) k before kept left (stood.stands.each k within)
 

@@ -1,10 +1,10 @@
 -- Stacks laid out plane by plane.
-use Rattle.lx_levels.proofs.Imports.{◌≡◌, ◌≢◌, ◌⊎◌, ℕ, zero, suc, ◌+◌, ◌-◌, ◌*◌, ◌<◌, ◌≤◌, List, ◌∷◌, drop}
-use Rattle.lx_levels.proofs.Imports.{length, min, arith, get_or, set, replicate, refl, ◌∙◌, ap, sym, subst, inl, inr, All, length-set, cases_lt, get_or-set_other}
-use Rattle.lx_levels.proofs.Imports.{get_or_read, same_lists, get_or_past, get_or-replicate, Fade}
-use Rattle.lx_levels.proofs.Imports.{pushed, stack_column, no_fade, drop-stack_column, in_block, read_is, NEVER, Stack, no_stack}
+use Rattle.lx_levels.proofs.Imports.{◌≡◌, ◌≢◌, ◌⊎◌, ℕ, zero, suc, ◌+◌, ◌-◌, ◌*◌, ◌<◌, ◌≤◌, List, ◌∷◌, drop, length, min, arith, get_or, set}
+use Rattle.lx_levels.proofs.Imports.{replicate, refl, ◌∙◌, ap, sym, subst, inl, inr, All, length-set, cases_lt, get_or-set_other, get_or_read}
+use Rattle.lx_levels.proofs.Imports.{same_lists, get_or_past, get_or-replicate, Fade, pushed, stack_column, no_fade, drop-stack_column, in_block}
+use Rattle.lx_levels.proofs.Imports.{read_is, NEVER, Stack, no_stack}
 use Rattle.std.proofs.lemmas.List.FromFn.{length-map-range_with_len, get_or-map-range_with_len}
-use Rattle.lx_sheet.proofs.Cells.{places_apart}
+use Rattle.std.proofs.lemmas.Nat.{same_from_place}
 use Rattle.lx_levels.specs.declared.racks.Foot.{Foot}
 use Rattle.lx_levels.specs.declared.racks.Racks.TheInside.{Inside}
 use Rattle.lx_levels.specs.Columns.{IsLaidOut, foot_at, stack_on, stack_at_place, stacks_of}
@@ -28,7 +28,7 @@ pub column_apart : (old grown : List Fade) (channels k kept : ℕ) (fade : Fade)
     → stack_column (set grown (kept * channels + k) fade) channels i n ≡ stack_column old channels i n
 column_apart old grown channels k kept fade i n within same less apart = column_same (set grown (kept * channels + k) fade) old channels i n
     (λ j below. get_or-set_other grown (kept * channels + k) (j * channels + i) fade no_fade (λ e.
-    let both = places_apart channels j kept i k less within e in apart j below both.0 both.1) ∙ same (j * channels + i))
+    let both = same_from_place j i kept k channels less within e in apart j below both.0 both.1) ∙ same (j * channels + i))
 
 pub length-stacks_of : (channels : ℕ) (feet : List Foot) (block : List Fade) → length (stacks_of channels feet block) ≡ channels
 length-stacks_of channels feet block = length-map-range_with_len (stack_at_place channels feet block) 0 channels

@@ -1,6 +1,6 @@
 -- The entry that a run takes for a channel is one of its own.
-use Rattle.lx_levels.proofs.Imports.{◌≤◌, List, [], ◌∷◌, length, unwrap_or, option_and_then, ◌==◌, Some, None, ℕ, AllByRecursion, arith}
-use Rattle.lx_levels.proofs.Imports.{entry_at, Show, move_of, Run, first_entry, entry_for}
+use Rattle.lx_levels.proofs.Imports.{◌≤◌, List, [], ◌∷◌, length, unwrap_or, option_and_then, ◌==◌, Some, None, ℕ, AllByRecursion, arith, entry_at}
+use Rattle.lx_levels.proofs.Imports.{Show, move_of, Run, first_entry, entry_for}
 use Rattle.lx_spec.specs.declared.PartTimes.{PartTimes}
 use Rattle.lx_spec.proofs.Instant.{All-find}
 

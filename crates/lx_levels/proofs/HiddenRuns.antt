@@ -1,6 +1,6 @@
 -- What a run does to the level over older runs, from a moment on.
-use Rattle.lx_levels.proofs.Imports.{◌≡◌, ℕ, ◌+◌, ◌-◌, ◌≤◌, Bool, true, false, cond, nat_le, List, ◌∷◌, None, Some, refl, arith}
-use Rattle.lx_levels.proofs.Imports.{◌∙◌, sym, Show, Run, acts, entry_extent, level, last_cue, fade_over, run_over, same_run, Act, act_over, IsKnown, IsOf}
+use Rattle.lx_levels.proofs.Imports.{◌≡◌, ℕ, ◌+◌, ◌-◌, ◌≤◌, Bool, true, false, cond, nat_le, List, ◌∷◌, None, Some, refl, arith, ◌∙◌, sym, Show, Run}
+use Rattle.lx_levels.proofs.Imports.{acts, entry_extent, level, last_cue, fade_over, run_over, same_run, Act, act_over, IsKnown, IsOf}
 use Rattle.lx_spec.proofs.Comparisons.{lt_false, le_true}
 
 -- an act is what its run does

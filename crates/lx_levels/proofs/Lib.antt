@@ -6,6 +6,5 @@ pub mod HiddenRuns
 pub mod Columns
 pub mod Looks
 pub mod Stands
-pub mod Found
 pub mod RunsInTurn
 mod Imports

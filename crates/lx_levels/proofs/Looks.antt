@@ -1,6 +1,6 @@
 -- The levels at a number, read from its look.
-use Rattle.lx_levels.proofs.Imports.{◌≡◌, ℕ, ◌+◌, ◌<◌, List, Option, Some, None, IfSome, option_map_or, arith, get_or, refl, ◌∙◌, sym}
-use Rattle.lx_levels.proofs.Imports.{Show, tracked, Sheet, level_of}
+use Rattle.lx_levels.proofs.Imports.{◌≡◌, ℕ, ◌+◌, ◌<◌, List, Option, Some, None, IfSome, option_map_or, arith, get_or, refl, ◌∙◌, sym, Show, tracked}
+use Rattle.lx_levels.proofs.Imports.{Sheet, level_of}
 use Rattle.lx_sheet.specs.SheetMeaning.{RowsStandFor}
 
 in_look : {R : Type 0} (now : R → List ℕ) (sheet : Sheet) (n k : ℕ) (look : Option R)

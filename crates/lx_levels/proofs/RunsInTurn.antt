@@ -1,11 +1,11 @@
 -- Runs that are followed one after another.
-use Rattle.lx_levels.proofs.Imports.{◌≡◌, ℕ, ◌+◌, ◌<◌, ◌≤◌, List, [], ◌∷◌, ◌++◌, length, take, reverse, Option}
-use Rattle.lx_levels.proofs.Imports.{Some, None, IfSome, slice_set, arith, get_or, ap, sym, subst, ◌∙◌, add-one, get_or_default}
-use Rattle.lx_levels.proofs.Imports.{common_steps, Show, tracked, Run, level, last_cue, refl}
-use Rattle.lx_levels.proofs.Imports.{OldestFirst, Stack, stack_level, Act, act_over, IsReplayed, IsGround, IsKnown, IsOf, IsValid, AreKnown, EachAct, false}
+use Rattle.lx_levels.proofs.Imports.{◌≡◌, ℕ, ◌+◌, ◌<◌, ◌≤◌, List, [], ◌∷◌, ◌++◌, length, take, reverse, Option, Some, None, IfSome, slice_set, arith}
+use Rattle.lx_levels.proofs.Imports.{get_or, ap, sym, subst, ◌∙◌, add-one, get_or_default, common_steps, Show, tracked, Run, level, last_cue, refl}
+use Rattle.lx_levels.proofs.Imports.{OldestFirst, Stack, stack_level, Act, act_over, IsReplayed, IsGround, IsKnown, IsValid, AreKnown, EachAct, false}
 use Rattle.lx_levels.proofs.Imports.{option_map_or}
 use Rattle.lx_levels.specs.Acts.{IsOver}
 use Rattle.std.proofs.Math.Seq.{take-suc}
+use Rattle.std.proofs.lemmas.Option.{IfSome_then}
 use Rattle.lx_levels.proofs.HiddenRuns.{level_hidden, level_passed, level_pushed}
 use Rattle.lx_levels.proofs.Written.{after_set}
 
@@ -15,21 +15,13 @@ pub each_more : (P : Act → Type 0) (live : List Run) {n i : ℕ} (known : List
 each_more P live {n} {i} known new others next this within = λ j least below.
     after_set (λ _ o. IfSome o P) known i new None j within this (λ apart. others j (omega (arith, least, apart, next)) below)
 
-valid_of : (show : Show) (run : Run) (c : ℕ) (o : Option Act) → IfSome o (IsOf show run c) → IfSome o IsValid
-valid_of show run c None of = tt
-valid_of show run c (Some a) of = of.valid
-
 abbrev pub no_run : Run
 no_run = record { start = 0; cue = 0; parts = []; whole = false }
 
 pub all_valid : (show : Show) (base : ℕ) (live : List Run) (c n : ℕ) (known : List (Option Act)) → AreKnown show base live c n known
     → EachAct IsValid live n known
-all_valid show base live c n known all = λ i least less. valid_of show (get_or live i no_run) c (get_or known i None) (all i no_run least less).act
-
-act_later : {show : Show} {before c since : ℕ} {run : Run} (o : Option Act) → IsKnown show before run c o → since ≤ run.start
-    → IfSome o (λ a. since ≤ a.start)
-act_later None known le = tt
-act_later (Some a) known le = omega (arith, known.act.start)
+all_valid show base live c n known all = λ i least less.
+    IfSome_then (get_or known i None) (all i no_run least less).act (λ a of. of.valid)
 
 -- one run more, the newest first
 reverse-end : (xs : List Run) (run : Run) → reverse (xs ++ run ∷ []) ≡ run ∷ reverse xs
@@ -54,7 +46,7 @@ module _ (show : Show) (base : ℕ) (live : List Run) (c : ℕ) {n i : ℕ} {run
       → EachAct (λ a. run.start ≤ a.start) live n known
   later_than known order all = λ j least below.
       let first : (get_or live i run).start ≤ (get_or live j run).start = order i j run (omega (arith, least, next)) below in
-      act_later (get_or known j None) (all j run least below) (omega (arith, first, ap (λ (r : Run). r.start) is))
+      IfSome_then (get_or known j None) (all j run least below).act (λ a of. omega (arith, of.start, first, ap (λ (r : Run). r.start) is))
 
   -- the run hides what is older
   pub hidden : (act : Option Act) {since target : ℕ} → target ≡ tracked show (last_cue base (reverse (take n live))) c

@@ -1,8 +1,8 @@
 -- Channels that are under way, as time goes on.
-use Rattle.lx_levels.proofs.Imports.{◌≡◌, ◌≢◌, ℕ, ◌+◌, ◌<◌, ◌≤◌, List, length, arith, get_or, set, get_or-set_other, get_or-set_same}
-use Rattle.lx_levels.proofs.Imports.{replicate, lit<, refl, ◌∙◌, ap, sym, subst, inl, inr, get_or-replicate, length-set}
-use Rattle.lx_levels.proofs.Imports.{cases_eq, NEVER, Stack, stack_level, no_stack, Governs, StaysUntil, no_current, Place, place_of, IsHeld, IsTold}
-use Rattle.lx_levels.proofs.Imports.{LevelsReach, IsRight, IsRightAt, IsRightBut, IsWritten, IsAdvanced, Motion, IsElsewhere}
+use Rattle.lx_levels.proofs.Imports.{◌≡◌, ◌≢◌, ℕ, ◌+◌, ◌<◌, ◌≤◌, List, length, arith, get_or, set, get_or-set_other, get_or-set_same, replicate, lit<}
+use Rattle.lx_levels.proofs.Imports.{refl, ◌∙◌, ap, sym, subst, inl, inr, get_or-replicate, length-set, cases_eq, NEVER, Stack, stack_level, no_stack}
+use Rattle.lx_levels.proofs.Imports.{Governs, StaysUntil, Place, place_of, IsHeld, IsTold, LevelsReach, IsRight, IsRightAt, IsRightBut, IsWritten}
+use Rattle.lx_levels.proofs.Imports.{IsAdvanced, Motion, IsElsewhere}
 
 -- the level that is kept is that of the stack
 pub level_now : {m : ℕ} {stack : Stack} {place : Place} → IsTold m stack place → place.level ≡ stack_level stack m
@@ -19,24 +19,14 @@ module _ {k : ℕ} {before after : Motion} (is : IsWritten k before after) where
   }
 
   pub written_other : {i : ℕ} → i ≢ k → place_of before i ≡ place_of after i
-  written_other {i} other = rw (
-    is.currents,
-    is.levels,
-    is.holds,
-    get_or-set_other before.currents.items k i is.place.current no_current other,
-    get_or-set_other before.levels.items k i is.place.level 0 other,
-    get_or-set_other before.holds.items k i is.place.hold 0 other,
-  ) refl
+  written_other {i} other = simp (is.currents, is.levels, is.holds, get_or-set_other)
 
   pub written_here : {n : ℕ} → LevelsReach n before → k < n → is.place ≡ place_of after k
-  written_here reaches within = rw (
-    is.currents,
-    is.levels,
-    is.holds,
-    get_or-set_same before.currents.items k is.place.current no_current (omega (arith, within, reaches.of_currents)),
-    get_or-set_same before.levels.items k is.place.level 0 (omega (arith, within, reaches.of_levels)),
-    get_or-set_same before.holds.items k is.place.hold 0 (omega (arith, within, reaches.of_holds)),
-  ) refl
+  written_here reaches within =
+      let in_currents : k < length before.currents.items = omega (arith, within, reaches.of_currents) in
+      let in_levels : k < length before.levels.items = omega (arith, within, reaches.of_levels) in
+      let in_holds : k < length before.holds.items = omega (arith, within, reaches.of_holds) in
+      simp (is.currents, is.levels, is.holds, get_or-set_same)
 
   -- it is told, and the others are held as before
   pub told_here : {m n : ℕ} {stack : Stack} → LevelsReach n before → k < n → Governs m stack is.place.current
@@ -82,9 +72,7 @@ right_but {m} {k} {stacks} {new} {motion} stack right within is =
       begun = right.begun;
       within = omega (arith, within, long);
       each = λ i less other. record {
-        told = subst (λ (s : Stack). IsTold m s (place_of motion i))
-            (sym (ap (λ (ss : List Stack). get_or ss i no_stack) is ∙ get_or-set_other stacks k i stack no_stack other))
-            (right.each i (omega (arith, less, long))).told;
+        told = rw (is, get_or-set_other stacks k i stack no_stack other) (right.each i (omega (arith, less, long))).told;
         due = (right.each i (omega (arith, less, long))).due;
       };
     }
@@ -94,7 +82,7 @@ pub elsewhere : {k moment : ℕ} {stacks new : List Stack} (stack : Stack) → n
 elsewhere {k} {moment} {stacks} stack is = record {
   moment = refl;
   reach = ap length is ∙ length-set stacks k stack;
-  others = λ i other. ap (λ (ss : List Stack). get_or ss i no_stack) is ∙ get_or-set_other stacks k i stack no_stack other;
+  others = λ i other. rw (is, get_or-set_other stacks k i stack no_stack other) refl;
 }
 
 -- at the opening each channel is still at 0
@@ -105,14 +93,12 @@ opened_right {stacks} {motion} {n} reaches long zeros never due empty = record {
   reaches = subst (λ i. LevelsReach i motion) (sym long) reaches;
   begun = lit< tt;
   each = λ k within.
-      let less : k < n = omega (arith, long) in
-      let dark = ap (λ (ls : List ℕ). get_or ls k 0) zeros ∙ get_or-replicate {A = ℕ} n k 0 0 less in
-      let held = ap (λ (hs : List ℕ). get_or hs k 0) never ∙ get_or-replicate {A = ℕ} n k NEVER 0 less in
+      let held = rw (← never) at (get_or-replicate {A = ℕ} n k NEVER 0 (omega (arith, long))) in
       record {
         told = record {
           held = record {
             governs = λ some. absurd (some held);
-            stays = λ x from until. ap (λ (s : Stack). stack_level s x) (empty k) ∙ sym dark;
+            stays = λ x from until. rw (empty k, zeros, get_or-replicate {A = ℕ} n k 0 0 (omega (arith, long))) refl;
           };
           later = omega (arith, held);
         };

@@ -28,11 +28,11 @@ same_channels changes.Levels before after same = same.channels
 same_channels (changes.Row e) before after same = same.channels
 
 -- a change that is none
-pub same_outputs : (change : Change) (before after : Kept) → is_nothing change ≡ true → Changes change before after
+pub same_outputs : (change : Change) {before after : Kept} → is_nothing change ≡ true → Changes change before after
     → SameOutputs before after
-same_outputs changes.Nothing before after is same = same
-same_outputs changes.Levels before after is same = absurd cc
-same_outputs (changes.Row e) before after is same = absurd cc
+same_outputs changes.Nothing is same = same
+same_outputs changes.Levels is same = absurd cc
+same_outputs (changes.Row e) is same = absurd cc
 
 pub as_before : (k : Kept) → SameOutputs k k
 as_before k = record {
@@ -43,9 +43,9 @@ as_before k = record {
 }
 
 -- where nothing that goes out changed of either list, both are shown still
-pub filled_still : (first second first' second' : Kept) (output : Output) → second.show.channels ≡ first.show.channels
+pub filled_still : {first second first' second' : Kept} {output : Output} → second.show.channels ≡ first.show.channels
     → IsFilled (both first second) output → SameOutputs first first' → SameOutputs second second' → IsFilled (both first' second') output
-filled_still first second first' second' output channels filled same same' = record {
+filled_still {first} {second} {first'} {second'} {output} channels filled same same' = record {
   room = same_room first.show first'.show output same.rows.channels filled.room;
   rows = same_rows first first' same.rows filled.rows;
   patch = same_table first first' output.kept same.rows filled.patch;
@@ -76,10 +76,10 @@ stood (Ok next) now ok = record { desk = next; stands = ok }
 stood (Err refusal) now ok = absurd ok
 
 -- after a command of the first list
-pub first_kept : {A : Type 0} (command : Command) (x : A) (change : Change) (first second now : Kept) (output output' : Output)
+pub first_kept : {A : Type 0} {command : Command} {x : A} (change : Change) {first second now : Kept} {output output' : Output}
     → AreKept (both first second) output → ((d : Desk) → StandsFor d first → Answers d command (Ok x) now) → Changes change first now
     → now.playback.moment ≡ first.playback.moment → IsFilled (both now second) output' → AreKept (both now second) output'
-first_kept command x change first second now output output' kept answers changed moment filled =
+first_kept {command = command} change {first} {now = now} kept answers changed moment filled =
     let next = stood (step kept.desks.first command) now (answers kept.desks.first kept.stand.first).ok in
     record {
       desks = record { first = next.desk; second = kept.desks.second };
@@ -90,10 +90,10 @@ first_kept command x change first second now output output' kept answers changed
     }
 
 -- and of the second
-pub second_kept : {A : Type 0} (command : Command) (x : A) (change : Change) (first second now : Kept) (output output' : Output)
+pub second_kept : {A : Type 0} {command : Command} {x : A} (change : Change) {first second now : Kept} {output output' : Output}
     → AreKept (both first second) output → ((d : Desk) → StandsFor d second → Answers d command (Ok x) now) → Changes change second now
     → now.playback.moment ≡ second.playback.moment → IsFilled (both first now) output' → AreKept (both first now) output'
-second_kept command x change first second now output output' kept answers changed moment filled =
+second_kept {command = command} change {second = second} {now} kept answers changed moment filled =
     let next = stood (step kept.desks.second command) now (answers kept.desks.second kept.stand.second).ok in
     record {
       desks = record { first = kept.desks.first; second = next.desk };
@@ -110,13 +110,13 @@ both_channels first second first' second' same show show' = ap (λ (s : Show). s
     ∙ sym (ap (λ (s : Show). s.channels) show)
 
 -- and after a tick of both
-pub ticked_kept : {A : Type 0} (x y : A) (first second first' second' : Kept) (output output' : Output) → AreKept (both first second) output
+pub ticked_kept : {A : Type 0} {x y : A} {first second first' second' : Kept} {output output' : Output} → AreKept (both first second) output
     → ((d : Desk) → StandsFor d first → Obeys d commands.Tick (Ok x) first')
     → ((d : Desk) → StandsFor d second → Obeys d commands.Tick (Ok y) second')
     → first'.show ≡ first.show → second'.show ≡ second.show
     → first'.playback.moment ≡ first.playback.moment + TICK_STEP → second'.playback.moment ≡ second.playback.moment + TICK_STEP
     → IsFilled (both first' second') output' → AreKept (both first' second') output'
-ticked_kept x y first second first' second' output output' kept obeys obeys' show show' moment moment' filled =
+ticked_kept {first = first} {second} {first'} {second'} kept obeys obeys' show show' moment moment' filled =
     let next = stood (step kept.desks.first commands.Tick) first' (obeys kept.desks.first kept.stand.first).ok in
     let next' = stood (step kept.desks.second commands.Tick) second' (obeys' kept.desks.second kept.stand.second).ok in
     record {

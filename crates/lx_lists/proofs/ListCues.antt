@@ -1,10 +1,10 @@
 -- The cues of each list: what is left of a show's once those of the other are taken out.
 use Rattle.lx_lists.proofs.Imports.{◌≡◌, ℕ, zero, suc, ◌-◌, ◌<◌, ◌≤◌, Bool, true, false, cond, List, [], ◌∷◌, length, Some}
-use Rattle.lx_lists.proofs.Imports.{refl, ◌∙◌, sym, ap, arith, Option, IsTrue, filter, not, nat_lt, nat_le, ◌==◌, is_some, slice_get, AllByRecursion}
+use Rattle.lx_lists.proofs.Imports.{refl, ◌∙◌, sym, ap, arith, IsTrue, filter, not, nat_lt, nat_le, ◌==◌, is_some, slice_get, AllByRecursion}
 use Rattle.lx_lists.proofs.Imports.{SECOND_LIST, IsStrictlySorted, entry_at, has_entry, taken_out, Cue, Show, first_show, second_show}
 use Rattle.lx_spec.specs.EditedShow.{without_cue}
 use Rattle.lx_spec.proofs.Comparisons.{lt_true, lt_false, lt_from, le_true, le_false, eq_true, eq_from}
-use Rattle.lx_spec.proofs.Lists.{each, filter_all, shorter}
+use Rattle.lx_spec.proofs.Lists.{decided, each, filter_all, shorter}
 
 aside_step : {A : Type 0} (key : A → ℕ) (p : ℕ → Bool) (n : ℕ) (x : A) (xs : List A) (b : Bool) → (key x == n) ≡ b → p n ≡ false
     → filter (λ y. p (key y)) (taken_out key n xs) ≡ filter (λ y. p (key y)) xs
@@ -39,10 +39,6 @@ pub one_less : {A : Type 0} (key : A → ℕ) (n : ℕ) (xs : List A) → IsTrue
 one_less key n [] there = absurd cc
 one_less key n (x ∷ xs) there = shorter_step key n x xs (key x == n) (one_less key n xs) there
 
-found_step : {A : Type 0} (y : A) (b : Bool) (rest : Option A) → IsTrue (is_some rest) → IsTrue (is_some (cond b (Some y) rest))
-found_step y true rest there = refl
-found_step y false rest there = there
-
 -- the entry at a place is found by its number
 pub stands_there : {A : Type 0} (key : A → ℕ) (xs : List A) (k : ℕ) (x : A) → slice_get xs k ≡ Some x → IsTrue (has_entry key (key x) xs)
 stands_there key [] k x is = absurd cc
@@ -50,7 +46,8 @@ stands_there {A} key (y ∷ ys) zero x is =
     let same : y ≡ x = cc in
     let here : (key y == key x) ≡ true = eq_true (key y) (key x) (ap key same) in
     rw here refl
-stands_there key (y ∷ ys) (suc k) x is = found_step y (key y == key x) _ (stands_there key ys k x is)
+stands_there key (y ∷ ys) (suc k) x is =
+    decided (λ o. IsTrue (is_some o)) (key y == key x) (Some y) (entry_at key (key x) ys) (λ same. refl) (λ other. stands_there key ys k x is)
 
 all_from : (cues : List Cue) (cue : Cue) → IsStrictlySorted (λ x. x.number) cues → slice_get cues 0 ≡ Some cue → SECOND_LIST ≤ cue.number
     → AllByRecursion (λ x. nat_le SECOND_LIST x.number ≡ true) cues

@@ -10,33 +10,33 @@ use Rattle.lx_session.proofs.AttemptSteps.{nothing_yet, attempted}
 use Rattle.lx_session.proofs.Commands.{own_attempted}
 
 -- A command that is answered so was attempted.
-pub tick_attempted : {A : Type 0} (d : Desk) (answer : Result A Refusal) (before now : Kept) → StandsFor d before
+pub tick_attempted : {A : Type 0} {d : Desk} (answer : Result A Refusal) {before now : Kept} → StandsFor d before
     → Obeys d commands.Tick answer now → OnErr answer (now ≡ before) → Attempted true d commands.Tick (result_err answer) now
-tick_attempted d (Ok x) before now stands obeys same = obeys.ok
-tick_attempted d (Err refusal) before now stands obeys same = (subst (StandsFor d) (sym same) stands, inl obeys.err)
+tick_attempted (Ok x) stands obeys same = obeys.ok
+tick_attempted (Err refusal) stands obeys same = (rw same stands, inl obeys.err)
 
 -- the ticks heard of reach the other
-pub tick_reaches : {A : Type 0} (d : Desk) (answer : Result A Refusal) (before now : Kept) → StandsFor d before
+pub tick_reaches : {A : Type 0} {d : Desk} (answer : Result A Refusal) {before now : Kept} → StandsFor d before
     → Obeys d commands.Tick answer now → OnErr answer (now ≡ before) → TicksReach d now (heard_of commands.Tick (result_err answer))
-tick_reaches d (Ok x) before now stands obeys same = stood d (step d commands.Tick) now obeys.ok where
+tick_reaches {d = d} (Ok x) {now = now} stands obeys same = stood d (step d commands.Tick) now obeys.ok where
   stood : (d : Desk) (r : Result Desk Refusal) (now : Kept) → IsOkAnd r (λ next. StandsFor next now) → StandsFor (result_unwrap_or r d) now
   stood d (Ok next) now stands = stands
   stood d (Err refusal) now stands = absurd stands
-tick_reaches d (Err refusal) before now stands obeys same = subst (StandsFor d) (sym same) stands
+tick_reaches (Err refusal) stands obeys same = rw same stands
 
 -- a command of one list was attempted on its desk
-pub first_attempted : {A : Type 0} (s : TwoDesks) (c : Command) (answer : Result A Refusal) (before now : TwoKept) → TwoStand s before
+pub first_attempted : {A : Type 0} {s : TwoDesks} (c : Command) {answer : Result A Refusal} {before now : TwoKept} → TwoStand s before
     → TakesStep (may_lack_memory c) (first_step s c) answer now → OnErr answer (now ≡ before)
     → Attempted true s.first c (result_err answer) now.first
-first_attempted s c answer before now stands steps same =
+first_attempted {s = s} c {answer} {before} {now} stands steps same =
     own_attempted (λ (d : Desk). record s { first = d }) s.first c answer before.first now.first (λ x. TwoStand x now)
     (TwoWantMemory (may_lack_memory c) (first_step s c)) stands.first (on_err_weaker answer (ap (λ (t : TwoKept). t.first)) same)
     (λ d stand. stand.first) (λ refusal want. (want.takes_some, want.memory, want.accepted)) steps.ok steps.err
 
-pub second_attempted : {A : Type 0} (s : TwoDesks) (c : Command) (answer : Result A Refusal) (before now : TwoKept) → TwoStand s before
+pub second_attempted : {A : Type 0} {s : TwoDesks} (c : Command) {answer : Result A Refusal} {before now : TwoKept} → TwoStand s before
     → TakesStep (may_lack_memory c) (second_step s c) answer now → OnErr answer (now ≡ before)
     → Attempted true s.second c (result_err answer) now.second
-second_attempted s c answer before now stands steps same =
+second_attempted {s = s} c {answer} {before} {now} stands steps same =
     own_attempted (λ (d : Desk). record s { second = d }) s.second c answer before.second now.second (λ x. TwoStand x now)
     (TwoWantMemory (may_lack_memory c) (second_step s c)) stands.second (on_err_weaker answer (ap (λ (t : TwoKept). t.second)) same)
     (λ d stand. stand.second) (λ refusal want. (want.takes_some, want.memory, want.accepted)) steps.ok steps.err
@@ -48,16 +48,13 @@ no_ticks c (Some refusal) other = refl
 -- a command of the first list leaves the second
 pub first_reaches : (d : Desk) (c : Command) (refusal : Option Refusal) (before now : Kept) → StandsFor d before → is_tick c ≡ false
     → now ≡ before → TicksReach d now (heard_of c refusal)
-first_reaches d c refusal before now stands other same =
-    subst (λ (cs : List Command). StandsFor (fold after_command d cs) now) (sym (no_ticks c refusal other))
-    (subst (StandsFor d) (sym same) stands)
+first_reaches d c refusal before now stands other same = rw (no_ticks c refusal other, same) stands
 
 -- ticks among the commands of a line, and among one more
 joined : (d : Desk) (now : Kept) (done more : List Command) → StandsFor (fold after_command (fold after_command d (filter is_tick done))
     (filter is_tick more)) now → TicksReach d now (done ++ more)
 joined d now done more stands =
-    subst (λ (cs : List Command). StandsFor (fold after_command d cs) now) (sym (filter-append is_tick done more))
-    (subst (λ (e : Desk). StandsFor e now) (sym (fold-append after_command d (filter is_tick done) (filter is_tick more))) stands)
+    rw (filter-append is_tick done more, fold-append after_command d (filter is_tick done) (filter is_tick more)) stands
 
 -- One attempt more on the first list, or on both.
 pub one_more : {s : TwoDesks} {old turn turn' : LineState} {c : Command} {refusal : Option Refusal} {before now : TwoKept}

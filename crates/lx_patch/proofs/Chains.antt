@@ -1,7 +1,14 @@
 -- Chains of the dimmers that follow each channel, a dimmer more at a time from the last one on.
-use Rattle.lx_patch.proofs.Imports.{◌≡◌, ◌≢◌, ◌⊎◌, ℕ, ◌+◌, ◌<◌, ◌≤◌, List, length, arith, get_or, set, get_or-set_other, refl}
-use Rattle.lx_patch.proofs.Imports.{◌∙◌, ap, sym, inl, inr, length-set, cases_eq, cases_lt, get_or-set_at, CHANNELS, SLOTS, scaled, FollowsChannel}
-use Rattle.lx_patch.proofs.Imports.{AreDimmersChained}
+use Rattle.lx_patch.proofs.Imports.{◌≡◌, ◌≢◌, ◌⊎◌, ℕ, ◌+◌, ◌<◌, ◌≤◌, List, length, arith, get_or, set, get_or-set_other, refl, ◌∙◌, ap, sym, inl, inr}
+use Rattle.lx_patch.proofs.Imports.{length-set, cases_eq, cases_lt, get_or-set_at, CHANNELS, SLOTS, scaled, FollowsChannel, AreDimmersChained}
+
+-- what is true of the entry that was written, and of each other one, is true of each
+pub each_set : (P : ℕ → ℕ → Type 0) (xs : List ℕ) (k x : ℕ) → k < length xs → P k x → ((j : ℕ) → j ≢ k → P j (get_or xs j 0)) → (j : ℕ)
+    → P j (get_or (set xs k x) j 0)
+each_set P xs k x within here other j = elim (cases_eq j k) [
+  | inl same ↦ rw (get_or-set_at xs k j x 0 same within, same) here
+  | inr apart ↦ rw (get_or-set_other xs k j x 0 apart) (other j apart)
+]
 
 module _ {places levels first next : List ℕ} {from e : ℕ} (is : AreDimmersChained places levels first next from) (at : e + 1 ≡ from) where
   apart : (d : ℕ) → e ≤ d → d ≢ e → from ≤ d
@@ -28,50 +35,30 @@ module _ {places levels first next : List ℕ} {from e : ℕ} (is : AreDimmersCh
   chained_lit k old most k_is within_k lit old_is = record {
     first_reach = length-set first k e ∙ is.first_reach;
     next_reach = length-set next e old ∙ is.next_reach;
-    first_low = λ j within. elim (cases_eq j k) [
-      | inl here ↦ omega (arith, first_here j here)
-      | inr other ↦ omega (arith, first_other j other, is.first_low j within)
-    ];
-    first_own = λ j within below. elim (cases_eq j k) [
-      | inl here ↦ rw (first_here j here) record { channel = sym k_is ∙ sym here; lit = lit }
-      | inr other ↦ rw (first_other j other) (is.first_own j within (omega (arith, below, first_other j other)))
-    ];
-    first_all = λ j d within past below follows. elim (cases_eq j k) [
-      | inl here ↦ omega (arith, first_here j here)
-      | inr other ↦
-          let d_apart = λ (same : d ≡ e). other (sym follows.channel ∙ ap (λ n. get_or places n 0) same ∙ sym k_is) in
-          omega (arith, first_other j other, is.first_all j d within (apart d past d_apart) below follows)
-    ];
-    next_later = λ d past below bright. elim (cases_eq d e) [
-      | inl here ↦ omega (arith, next_here d here, old_is, is.first_low k within_k)
-      | inr other ↦ omega (arith, next_other d other, is.next_later d (apart d past other) below bright)
-    ];
-    next_own = λ d past below bright then. elim (cases_eq d e) [
-      | inl here ↦
-          let first_follows = is.first_own k within_k (omega (arith, then, next_here d here, old_is)) in
-          rw (next_here d here ∙ old_is)
-          record { channel = first_follows.channel ∙ k_is ∙ ap (λ n. get_or places n 0) (sym here); lit = first_follows.lit }
-      | inr other ↦ rw (next_other d other)
-          (is.next_own d (apart d past other) below bright (omega (arith, then, next_other d other)))
-    ];
-    next_all = λ d g past below bright later within follows. elim (cases_eq d e) [
-      | inl here ↦
-          let of_k : FollowsChannel places levels k g = record { channel = follows.channel ∙ ap (λ n. get_or places n 0) here ∙ sym k_is; lit = follows.lit } in
-          omega (arith, next_here d here, old_is, is.first_all k g within_k (omega (arith, here)) within of_k)
-      | inr other ↦ omega (arith, next_other d other, is.next_all d g (apart d past other) below bright later within follows)
-    ];
+    first_low = in_first (λ j v. j < CHANNELS → e ≤ v) (λ _. omega arith) (λ j other within. omega (arith, is.first_low j within));
+    first_own = in_first (λ j v. j < CHANNELS → v < SLOTS → FollowsChannel places levels j v)
+        (λ _ _. record { channel = sym k_is; lit = lit }) (λ j other. is.first_own j);
+    first_all = λ j d. in_first (λ j v. j < CHANNELS → e ≤ d → d < SLOTS → FollowsChannel places levels j d → v ≤ d) (λ _ past _ _. past)
+        (λ j other within past below follows. is.first_all j d within
+        (apart d past (λ same. other (sym follows.channel ∙ ap (λ n. get_or places n 0) same ∙ sym k_is))) below follows) j;
+    next_later = in_next (λ d v. e ≤ d → d < SLOTS → 0 < get_or levels d 0 → d < v)
+        (λ _ _ _. omega (arith, old_is, is.first_low k within_k)) (λ d other past. is.next_later d (apart d past other));
+    next_own = in_next (λ d v. e ≤ d → d < SLOTS → 0 < get_or levels d 0 → v < SLOTS → FollowsChannel places levels (get_or places d 0) v)
+        (λ _ _ _ then. let first_follows = is.first_own k within_k (omega (arith, then, old_is)) in
+        rw old_is record { channel = first_follows.channel ∙ k_is; lit = first_follows.lit })
+        (λ d other past. is.next_own d (apart d past other));
+    next_all = λ d g. in_next (λ d v. e ≤ d → d < SLOTS → 0 < get_or levels d 0 → d < g → g < SLOTS
+        → FollowsChannel places levels (get_or places d 0) g → v ≤ g)
+        (λ _ _ _ later within follows.
+        let of_k : FollowsChannel places levels k g = record { channel = follows.channel ∙ sym k_is; lit = follows.lit } in
+        omega (arith, old_is, is.first_all k g within_k (omega (arith, later)) within of_k))
+        (λ d other past. is.next_all d g (apart d past other)) d;
   } where
-    first_here : (j : ℕ) → j ≡ k → get_or (set first k e) j 0 ≡ e
-    first_here j here = get_or-set_at first k j e 0 here (omega (arith, is.first_reach))
+    in_first : (P : ℕ → ℕ → Type 0) → P k e → ((j : ℕ) → j ≢ k → P j (get_or first j 0)) → (j : ℕ) → P j (get_or (set first k e) j 0)
+    in_first P = each_set P first k e (omega (arith, is.first_reach))
 
-    first_other : (j : ℕ) → j ≢ k → get_or (set first k e) j 0 ≡ get_or first j 0
-    first_other j other = get_or-set_other first k j e 0 other
-
-    next_here : (d : ℕ) → d ≡ e → get_or (set next e old) d 0 ≡ old
-    next_here d here = get_or-set_at next e d old 0 here (omega (arith, is.next_reach))
-
-    next_other : (d : ℕ) → d ≢ e → get_or (set next e old) d 0 ≡ get_or next d 0
-    next_other d other = get_or-set_other next e d old 0 other
+    in_next : (P : ℕ → ℕ → Type 0) → P e old → ((d : ℕ) → d ≢ e → P d (get_or next d 0)) → (d : ℕ) → P d (get_or (set next e old) d 0)
+    in_next P = each_set P next e old (omega (arith, is.next_reach))
 
 -- what is filled in along a channel's chain
 pub record IsWalked (places levels before slots : List ℕ) (k out e : ℕ) : Type 0 where
@@ -94,38 +81,31 @@ module _ {places levels first next : List ℕ} {k out e : ℕ} (is : AreDimmersC
 
   pub walk_next : {before slots : List ℕ} {after : ℕ} (value : ℕ) → IsWalked places levels before slots k out e → e < SLOTS
       → value ≡ scaled out (get_or levels e 0) → after ≡ get_or next e 0 → IsWalked places levels before (set slots e value) k out after
-  walk_next {slots = slots} value walked below value_is next_is =
+  walk_next {before} {slots} {after} value walked below value_is next_is =
       let here = walked.own below in
       record {
         reach = length-set slots e value ∙ walked.reach;
-        seen = λ d within past follows. elim (cases_eq d e) [
-          | inl same ↦ written d same ∙ value_is ∙ ap (λ n. scaled out (get_or levels n 0)) (sym same)
-          | inr other ↦ kept d other ∙ walked.seen d within (omega (arith, other, past, next_is, clear d within follows other)) follows
-        ];
-        others = λ d within apart. elim (cases_eq d e) [
-          | inl same ↦ absurd (apart (ap (λ n. get_or places n 0) same ∙ here.channel))
-          | inr other ↦ kept d other ∙ walked.others d within apart
-        ];
-        dark = λ d within unlit. elim (cases_eq d e) [
-          | inl same ↦ absurd (omega (arith, here.lit, unlit, ap (λ n. get_or levels n 0) same))
-          | inr other ↦ kept d other ∙ walked.dark d within unlit
-        ];
+        seen = λ d. at_each (λ d v. d < SLOTS → d < after → FollowsChannel places levels k d → v ≡ scaled out (get_or levels d 0))
+            (λ _ _ _. value_is)
+            (λ d other within past follows. walked.seen d within (omega (arith, other, past, next_is, clear d within follows other)) follows) d;
+        others = at_each (λ d v. d < SLOTS → get_or places d 0 ≢ k → v ≡ get_or before d 0) (λ _ apart. absurd (apart here.channel))
+            (λ d other. walked.others d);
+        dark = at_each (λ d v. d < SLOTS → get_or levels d 0 ≡ 0 → v ≡ get_or before d 0)
+            (λ _ unlit. absurd (omega (arith, here.lit, unlit))) (λ d other. walked.dark d);
         own = λ within.
             let follows = is.next_own e (omega arith) below here.lit (omega (arith, next_is)) in
             rw next_is record { channel = follows.channel ∙ here.channel; lit = follows.lit };
       } where
-        written : (d : ℕ) → d ≡ e → get_or (set slots e value) d 0 ≡ value
-        written d same = get_or-set_at slots e d value 0 same (omega (arith, walked.reach))
-
-        kept : (d : ℕ) → d ≢ e → get_or (set slots e value) d 0 ≡ get_or slots d 0
-        kept d other = get_or-set_other slots e d value 0 other
+        at_each : (P : ℕ → ℕ → Type 0) → P e value → ((d : ℕ) → d ≢ e → P d (get_or slots d 0)) → (d : ℕ)
+            → P d (get_or (set slots e value) d 0)
+        at_each P = each_set P slots e value (omega (arith, walked.reach))
 
         -- a dimmer of the channel after this one isn't passed over
         clear : (d : ℕ) → d < SLOTS → FollowsChannel places levels k d → d ≢ e → (d < e) ⊎ (get_or next e 0 ≤ d)
         clear d within follows other = elim (cases_lt d e) [
           | inl low ↦ inl low
           | inr high ↦
-              let own = walked.own below in
-              inr (is.next_all e d (omega arith) below own.lit (omega (arith, other)) within
-              record { channel = follows.channel ∙ sym own.channel; lit = follows.lit })
+              let here = walked.own below in
+              inr (is.next_all e d (omega arith) below here.lit (omega (arith, other)) within
+              record { channel = follows.channel ∙ sym here.channel; lit = follows.lit })
         ]

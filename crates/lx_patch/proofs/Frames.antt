@@ -1,8 +1,8 @@
 -- A table that stands for a show's patch reaches no further than the show's channels, and its slots are the values of the dimmers.
-use Rattle.lx_patch.proofs.Imports.{◌≡◌, ◌⊎◌, ℕ, ◌+◌, ◌-◌, ◌<◌, ◌≤◌, List, refl}
-use Rattle.lx_patch.proofs.Imports.{Some, AllByRecursion, option_map_or, arith, get_or, ◌∙◌, ap, inl, inr, SLOTS, scaled, PatchRow, entry_at}
-use Rattle.lx_patch.proofs.Imports.{dimmer_value, IsTable, told, DimmerTable, StandsForPatch, ReachTable}
-use Rattle.std.proofs.Common.{IfSome, Option, None}
+use Rattle.lx_patch.proofs.Imports.{◌≡◌, ◌⊎◌, ℕ, ◌+◌, ◌-◌, ◌<◌, ◌≤◌, List, refl, Some, AllByRecursion, option_map_or, arith, get_or, ◌∙◌, ap, inl}
+use Rattle.lx_patch.proofs.Imports.{inr, SLOTS, scaled, PatchRow, entry_at, dimmer_value, IsTable, told, DimmerTable, StandsForPatch, ReachTable}
+use Rattle.lx_patch.proofs.Imports.{Option, None}
+use Rattle.std.proofs.Common.{IfSome}
 use Rattle.lx_spec.proofs.Lists.{find_has}
 use Rattle.lx_spec.specs.Show.{Show, Valid, ValidPatchRow}
 
@@ -36,5 +36,6 @@ pub patched : (show : Show) (out : ℕ → ℕ) (outs slots : List ℕ) → AllB
     → IsTable SLOTS (dimmer_value show.patch (λ c. get_or outs (c - 1) 0)) slots → IsTable SLOTS (dimmer_value show.patch out) slots
 patched show out outs slots rows table stand = record {
   reach = stand.reach;
-  each = λ k within. stand.each k within ∙ same_slot show.channels outs out (entry_at (λ r. r.dimmer) (k + 1) show.patch) table (find_has _ _ show.patch rows);
+  each = λ k within. stand.each k within ∙ same_slot show.channels outs out (entry_at (λ r. r.dimmer) (k + 1) show.patch) table
+      (find_has _ _ show.patch rows);
 }

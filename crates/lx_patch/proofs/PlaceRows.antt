@@ -1,8 +1,8 @@
 -- Places that follow one another.
-use Rattle.lx_patch.proofs.Imports.{◌≡◌, ℕ, ◌+◌, ◌-◌, ◌%◌, ◌^◌, ◌<◌, ◌≤◌, Bool, false, cond, eqb, not, List}
-use Rattle.lx_patch.proofs.Imports.{map, length, get_or, replicate, w16, sym, ap, ◌∙◌, arith, range_with_len, not-true, not-false, eqb-true}
-use Rattle.lx_patch.proofs.Imports.{get_or-replicate, length-replicate, length-zip2, get_or-zip2, length-chunk, get_or-chunk, tops_compared, mask_l-mod}
-use Rattle.lx_patch.proofs.Imports.{leading_from_mask_l, HasLanes, apart, AreInARow}
+use Rattle.lx_patch.proofs.Imports.{◌≡◌, ℕ, ◌+◌, ◌-◌, ◌%◌, ◌^◌, ◌<◌, ◌≤◌, Bool, false, cond, eqb, not, List, map, length, get_or, replicate, w16, sym}
+use Rattle.lx_patch.proofs.Imports.{ap, ◌∙◌, arith, range_with_len, not-true, not-false, eqb-true, get_or-replicate, length-replicate, length-zip2}
+use Rattle.lx_patch.proofs.Imports.{get_or-zip2, length-chunk, get_or-chunk, tops_compared, mask_l-mod, leading_from_mask_l, HasLanes, apart}
+use Rattle.lx_patch.proofs.Imports.{AreInARow}
 use Rattle.std.proofs.lemmas.List.{map-id}
 use Rattle.std.proofs.lemmas.List.FromFn.{get_or-range_with_len}
 use Rattle.std.proofs.lemmas.List.Sums.{prefix_len_passes}

@@ -1,9 +1,10 @@
 -- A table of the patch goes on standing for its rows, as they are placed and taken out.
-use Rattle.lx_patch.proofs.Imports.{◌≡◌, ℕ, ◌-◌, ◌<◌, ◌≤◌, Bool, true, false, not, ◌==◌, ◌&&◌, Option, None, Some, List, ◌∷◌}
-use Rattle.lx_patch.proofs.Imports.{find, option_map_or, arith, length, get_or, drop, drop-cons, set, replicate, suc, ◌∙◌, ap, sym, inl, inr}
-use Rattle.lx_patch.proofs.Imports.{length-replicate, get_or-replicate, cases_eq, SLOTS, PatchRow, entry_at, placed, taken_out, table_of_same, table-set}
-use Rattle.lx_patch.proofs.Imports.{DimmerTable, IsWired, place_of, proportion_of, StandsForPatch}
+use Rattle.lx_patch.proofs.Imports.{◌≡◌, ℕ, ◌+◌, ◌-◌, ◌<◌, ◌≤◌, Bool, true, not, ◌==◌, ◌&&◌, Option, None, Some, List, ◌∷◌, find, option_map_or}
+use Rattle.lx_patch.proofs.Imports.{arith, length, get_or, drop, set, replicate, ◌∙◌, ap, sym, inl, inr, length-replicate, get_or-replicate, not-true}
+use Rattle.lx_patch.proofs.Imports.{cases_eq, SLOTS, PatchRow, entry_at, placed, taken_out, table_of_same, table-set, DimmerTable, IsWired, place_of}
+use Rattle.lx_patch.proofs.Imports.{proportion_of, StandsForPatch}
 use Rattle.std.proofs.lemmas.Bool.Decides.{nat_tests}
+use Rattle.std.proofs.lemmas.List.{drop_more}
 use Rattle.lx_spec.proofs.Comparisons.{and_known, eq_other, eq_true}
 use Rattle.lx_spec.proofs.Lists.{each, find_both, find_none, passes}
 use Rattle.lx_spec.proofs.SortedLists.{entry_at-placed_here, entry_at-placed_other}
@@ -23,10 +24,9 @@ stands_set : {rows : List PatchRow} (now : List PatchRow) {places levels : List 
     → StandsForPatch now (record
     { places = set places (at - 1) (option_map_or (λ r. r.chan - 1) row 0); levels = set levels (at - 1) (option_map_or (λ r. r.level) row 0) })
 stands_set {rows} now {places} {levels} at row stands least most here others = record {
-  places = table-set SLOTS at _ (place_of rows) (place_of now) places stands.places least most (ap (λ (o : Option PatchRow). option_map_or (λ r. r.chan - 1) o 0) here)
-      (λ c other. ap (λ (o : Option PatchRow). option_map_or (λ r. r.chan - 1) o 0) (others c other));
-  levels = table-set SLOTS at _ (proportion_of rows) (proportion_of now) levels stands.levels least most (ap (λ (o : Option PatchRow). option_map_or (λ r. r.level) o 0) here)
-      (λ c other. ap (λ (o : Option PatchRow). option_map_or (λ r. r.level) o 0) (others c other));
+  places = table-set SLOTS at _ (place_of rows) (place_of now) places stands.places least most (rw here) (λ c other. rw (others c other));
+  levels = table-set SLOTS at _ (proportion_of rows) (proportion_of now) levels stands.levels least most (rw here)
+      (λ c other. rw (others c other));
 }
 
 -- a row is placed
@@ -34,19 +34,16 @@ pub stands_placed : (rows : List PatchRow) (row : PatchRow) {places levels : Lis
     → StandsForPatch rows (record { places = places; levels = levels }) → at ≡ row.dimmer → chan ≡ row.chan → 1 ≤ at → at ≤ SLOTS
     → StandsForPatch (placed (λ x. x.dimmer) row rows)
     (record { places = set places (at - 1) (chan - 1); levels = set levels (at - 1) row.level })
-stands_placed rows row {at = at} stands is chan_is least most = rw chan_is (stands_set (placed (λ x. x.dimmer) row rows) at (Some row) stands least most
-    (entry_at-placed_here (λ x. x.dimmer) at row rows (sym is))
+stands_placed rows row {at = at} stands is chan_is least most = rw chan_is (stands_set (placed (λ x. x.dimmer) row rows) at (Some row) stands
+    least most (entry_at-placed_here (λ x. x.dimmer) at row rows (sym is))
     (λ c other. entry_at-placed_other (λ x. x.dimmer) c row rows (λ same. other (sym same ∙ sym is))))
-
-number_apart : (a n : ℕ) → not (a == n) ≡ true → (a == n) ≡ false
-number_apart a n apart = grind (arith, nat_tests)
 
 apart_from : (a n m : ℕ) → (m ≡ n → ⊥) → (a == m) ≡ true → not (a == n) ≡ true
 apart_from a n m other same = grind (arith, nat_tests)
 
 -- what is taken out isn't found
 pub gone : (n : ℕ) (rows : List PatchRow) → entry_at (λ x. x.dimmer) n (taken_out (λ x. x.dimmer) n rows) ≡ None
-gone n rows = find_none _ _ (each _ _ _ (λ row h. number_apart row.dimmer n h) (passes (λ row. not (row.dimmer == n)) rows))
+gone n rows = find_none _ _ (each _ _ _ (λ row h. not-true (row.dimmer == n) h) (passes (λ row. not (row.dimmer == n)) rows))
 
 -- the others are found as before
 pub others_stay : (n m : ℕ) (rows : List PatchRow) → (m ≡ n → ⊥)
@@ -68,8 +65,7 @@ stands_without rows n {at = at} stands is least most = stands_set (taken_out (λ
 pub drop_before : (rows : List PatchRow) (i : ℕ) (row : PatchRow) → 0 < i → i ≤ length rows → row ≡ get_or rows (i - 1) row
     → drop (i - 1) rows ≡ row ∷ drop i rows
 drop_before rows i row some within is =
-    let next : suc (i - 1) ≡ i = omega arith in
-    drop-cons rows (i - 1) row (omega arith) ∙ ap (λ x. x ∷ drop (suc (i - 1)) rows) (sym is) ∙ ap (λ k. row ∷ drop k rows) next
+    let next : i - 1 + 1 ≡ i = omega arith in rw (drop_more rows (i - 1) row (omega arith), next, ← is)
 
 -- a row placed is found as one set before the others
 placed_first : (row : PatchRow) (rows : List PatchRow) (e : ℕ)
@@ -83,10 +79,8 @@ placed_first row rows e = elim (cases_eq row.dimmer e) [
 pub stands_alike : (one other : List PatchRow) (table : DimmerTable)
     → ((e : ℕ) → entry_at (λ x. x.dimmer) e one ≡ entry_at (λ x. x.dimmer) e other) → StandsForPatch one table → StandsForPatch other table
 stands_alike one other table alike stands = record {
-  places = table_of_same SLOTS (place_of one) (place_of other) table.places
-      (λ e least most. ap (λ (o : Option PatchRow). option_map_or (λ r. r.chan - 1) o 0) (alike e)) stands.places;
-  levels = table_of_same SLOTS (proportion_of one) (proportion_of other) table.levels
-      (λ e least most. ap (λ (o : Option PatchRow). option_map_or (λ r. r.level) o 0) (alike e)) stands.levels;
+  places = table_of_same SLOTS (place_of one) (place_of other) table.places (λ e least most. rw (alike e)) stands.places;
+  levels = table_of_same SLOTS (proportion_of one) (proportion_of other) table.levels (λ e least most. rw (alike e)) stands.levels;
 }
 
 pub stands_first : (row : PatchRow) (rows : List PatchRow) (table : DimmerTable) → StandsForPatch (placed (λ x. x.dimmer) row rows) table

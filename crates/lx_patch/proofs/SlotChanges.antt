@@ -1,7 +1,7 @@
 -- Slots that follow outputs which changed, channel by channel.
-use Rattle.lx_patch.proofs.Imports.{◌≡◌, ℕ, ◌+◌, ◌-◌, ◌<◌, ◌≤◌, Option, Some, None, List, length, option_map_or}
-use Rattle.lx_patch.proofs.Imports.{arith, get_or, refl, ◌∙◌, ap, sym, inl, inr, cases_lt, SLOTS, scaled, Agree, PatchRow, entry_at, dimmer_value}
-use Rattle.lx_patch.proofs.Imports.{IsTable, DimmerTable, StandsForPatch, ReachTable, AreDarkFrom, AreSlots, IsFollowed}
+use Rattle.lx_patch.proofs.Imports.{◌≡◌, ℕ, ◌+◌, ◌-◌, ◌<◌, ◌≤◌, Option, Some, None, List, length, option_map_or, arith, get_or, refl, ◌∙◌, ap, sym}
+use Rattle.lx_patch.proofs.Imports.{inl, inr, cases_lt, SLOTS, scaled, Agree, PatchRow, entry_at, dimmer_value, IsTable, DimmerTable, StandsForPatch}
+use Rattle.lx_patch.proofs.Imports.{ReachTable, AreDarkFrom, AreSlots, IsFollowed}
 
 -- in proportion to 0 everything is 0
 pub nothing : (x y : ℕ) → y ≡ 0 → scaled x y ≡ 0
@@ -13,10 +13,7 @@ nothing x y dark = ap (scaled x) dark ∙ none where
 pub slot_value : (rows : List PatchRow) (table : DimmerTable) (outs : List ℕ) (e : ℕ) → StandsForPatch rows table → e < SLOTS
     → dimmer_value rows (λ c. get_or outs (c - 1) 0) (e + 1) ≡ scaled (get_or outs (get_or table.places e 0) 0) (get_or table.levels e 0)
 slot_value rows table outs e stands within =
-    of_row (entry_at (λ row. row.dimmer) (e + 1) rows)
-    ∙ ap (λ n. scaled (get_or outs n 0) (option_map_or (λ row. row.level) (entry_at (λ row. row.dimmer) (e + 1) rows) 0))
-    (sym (stands.places.each e within))
-    ∙ ap (scaled (get_or outs (get_or table.places e 0) 0)) (sym (stands.levels.each e within)) where
+    rw (stands.places.each e within, stands.levels.each e within) (of_row (entry_at (λ row. row.dimmer) (e + 1) rows)) where
       of_row : (o : Option PatchRow) → option_map_or (λ r. scaled (get_or outs (r.chan - 1) 0) r.level) o 0
           ≡ scaled (get_or outs (option_map_or (λ r. r.chan - 1) o 0) 0) (option_map_or (λ r. r.level) o 0)
       of_row (Some row) = refl

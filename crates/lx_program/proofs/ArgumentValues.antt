@@ -2,7 +2,7 @@
 use Rattle.lx_program.proofs.Imports.{◌≡◌, ◌∙◌, ◌≤◌, Bool, true, false, Option, Some, None, List, [], ◌∷◌, ◌++◌, length, fold, refl}
 use Rattle.lx_program.proofs.Imports.{sym, ap, append_assoc, append-nil, arith, codes, ◌&&◌, ◌||◌, nat_le, option_and_then, if◌then◌else◌}
 use Rattle.lx_program.proofs.Imports.{list_all, list_any, bytes_eq, nat_tests, long_of, short_of, long_of_rest, short_of_rest, strip_byte, usize_max, Text}
-use Rattle.lx_program.proofs.Imports.{Rule, Row, Held, Walk, Step, idle, positional, value, trailing, walked, walk, walk_from, nothing_held, word_met}
+use Rattle.lx_program.proofs.Imports.{Rule, Row, Held, Waiting, Walk, Step, idle, positional, value, trailing, walked, walk, walk_from, nothing_held}
 use Rattle.lx_program.proofs.Imports.{after_step, long_or_other, short_or_plain, finished, reading_by, App, Shape, built, new_app, new_rule, with_rule, on_top}
 use Rattle.lx_program.proofs.Imports.{is_simple, matches_of, takes, other_passes, step_passes, default_passes, is_valid, turn_passes, flag_word_passes}
 use Rattle.lx_program.proofs.Imports.{bundle_passes, value_passes, settle_passes, level_passes, Append, option_map, unwrap_or, find, found_of, matched_of}
@@ -56,25 +56,21 @@ no_long w e = ap (λ o. option_and_then long_of_rest (option_and_then (strip_byt
 no_short : (w : Text) → begins_with_dash w ≡ false → short_of w ≡ None
 no_short w e = ap (λ o. option_and_then short_of_rest o) (no_strip w e)
 
-met_first : (w : Text) (h : Held) → begins_with_dash w ≡ false → word_met rules [] false idle 1 w h ≡ (h, value)
-met_first w h e =
-    ap (λ b. if b then (h, trailing 1) else long_or_other rules idle w (long_of w) h) (not_dashes w e)
-    ∙ ap (λ o. long_or_other rules idle w o h) (no_long w e) ∙ ap (λ o. short_or_plain rules idle w o h) (no_short w e)
-
-met_next : (w : Text) (h : Held) → begins_with_dash w ≡ false → word_met rules [] false positional 1 w h ≡ (h, value)
-met_next w h e =
-    ap (λ b. if b then (h, trailing 1) else long_or_other rules positional w (long_of w) h) (not_dashes w e)
-    ∙ ap (λ o. long_or_other rules positional w o h) (no_long w e) ∙ ap (λ o. short_or_plain rules positional w o h) (no_short w e)
+met : (x : Waiting) (w : Text) (h : Held) → begins_with_dash w ≡ false → short_or_plain rules x w None h ≡ (h, value)
+    → (if bytes_eq w (45 ∷ 45 ∷ []) then (h, trailing 1) else long_or_other rules x w (long_of w) h) ≡ (h, value)
+met x w h e plain =
+    ap (λ b. if b then (h, trailing 1) else long_or_other rules x w (long_of w) h) (not_dashes w e)
+    ∙ ap (λ o. long_or_other rules x w o h) (no_long w e) ∙ ap (λ o. short_or_plain rules x w o h) (no_short w e) ∙ plain
 
 -- ---- the walk
 
 first : (w : Text) → begins_with_dash w ≡ false → walked rules [] (walk_from nothing_held) w ≡ standing (w ∷ [])
 unfolding clap_on_literals
-first w e = ap (λ (m : Held × Step). after_step rules w (walk_from nothing_held) m.0 m.1) (met_first w nothing_held e)
+first w e = ap (λ (m : Held × Step). after_step rules w (walk_from nothing_held) m.0 m.1) (met idle w nothing_held e refl)
 
 next : (w : Text) (vs : List Text) → begins_with_dash w ≡ false → walked rules [] (standing vs) w ≡ standing (vs ++ w ∷ [])
 unfolding clap_on_literals
-next w vs e = ap (λ (m : Held × Step). after_step rules w (standing vs) m.0 m.1) (met_next w (standing vs).held e)
+next w vs e = ap (λ (m : Held × Step). after_step rules w (standing vs) m.0 m.1) (met positional w (standing vs).held e refl)
 
 parts : (a b : Bool) → (a || b) ≡ false → (a ≡ false) × (b ≡ false)
 parts true b e = absurd cc
@@ -123,13 +119,13 @@ first_passes : (w : Text) → begins_with_dash w ≡ false → turn_passes shape
 unfolding clap_on_literals
 first_passes w e =
     both (other_passes shape None w nothing_held) _ (word_fine w nothing_held e)
-    (ap (λ (m : Held × Step). step_passes shape 1 m.0 m.1) (met_first w nothing_held e))
+    (ap (λ (m : Held × Step). step_passes shape 1 m.0 m.1) (met idle w nothing_held e refl))
 
 next_passes : (w : Text) (vs : List Text) → begins_with_dash w ≡ false → turn_passes shape [] (standing vs) w ≡ true
 unfolding clap_on_literals
 next_passes w vs e =
     both (other_passes shape None w (standing vs).held) _ (word_fine w (standing vs).held e)
-    (ap (λ (m : Held × Step). step_passes shape 1 m.0 m.1) (met_next w (standing vs).held e))
+    (ap (λ (m : Held × Step). step_passes shape 1 m.0 m.1) (met positional w (standing vs).held e refl))
 
 rest_passes : (ws vs : List Text) → list_any begins_with_dash ws ≡ false → walk_passes shape [] (standing vs) ws ≡ true
 unfolding walk_passes

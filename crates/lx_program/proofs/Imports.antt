@@ -7,7 +7,7 @@ pub use Rattle.clap.specs.Simple.{App, app_of_fields, built, is_simple, matches_
 pub use Rattle.clap.specs.Takes.{bundle_passes, default_passes, flag_word_passes, is_valid, level_passes, other_passes, settle_passes, step_passes, takes}
 pub use Rattle.clap.specs.Takes.{turn_passes, value_passes}
 pub use Rattle.clap.specs.Walk.{after_step, all_of, finished, Held, idle, long_or_other, nothing_held, positional, reading_by, Row, row_of, rows_of, Rule}
-pub use Rattle.clap.specs.Walk.{short_or_plain, Step, Text, trailing, value, Walk, walk, walk_from, walked, word_met}
+pub use Rattle.clap.specs.Walk.{short_or_plain, Step, Text, trailing, value, Waiting, Walk, walk, walk_from, walked}
 pub use Rattle.clap.specs.Words.{app_of, found_of, matched_of, raw_values, rule_of}
 pub use Rattle.clap.specs.declared.builder.action.ArgAction.TheVariants.{Append}
 pub use Rattle.lx_desk.proofs.EmptyPrefixes.{unwritten}

@@ -1,7 +1,6 @@
 -- What holds of a live run and of a crew that were not begun, since memory ran out or the words name none.
 use Rattle.std.proofs.Common.{◌⊎◌, ◌≢◌, inr, IsSome}
-use Rattle.lx_program.proofs.Imports.{◌≡◌, ◌∙◌, Option, Some, None, List, ℕ, Bool, refl, sym, inl, false, Form, Job, Check, Sheet, Make, Script, Crew}
-use Rattle.lx_program.proofs.Imports.{Render, Live, Undo, Two, unwritten}
+use Rattle.lx_program.proofs.Imports.{◌≡◌, ◌∙◌, Option, Some, List, ℕ, Bool, refl, sym, inl, false, Form, Job, Script, Crew, Live, unwritten}
 use Rattle.lx_base.specs.Places.{EachAt}
 use Rattle.lx_desk.specs.declared.desk.Status.{Status}
 use Rattle.lx_program.specs.NamedJob.{NamesNoCrew, NamesNoRun}
@@ -26,40 +25,20 @@ none_served ample told count form bytes left held operators = inl (record {
   untouched = refl;
 })
 
-not_live : (s : Status) → (s ≡ status.Usage) ⊎ (s ≡ status.Memory) → s ≢ status.Live
-not_live s which is = elim which [
-  | inl usage ↦ let odd : status.Usage ≡ status.Live = sym usage ∙ is in cc
-  | inr memory ↦ let odd : status.Memory ≡ status.Live = sym memory ∙ is in cc
-]
-
-not_ok : (s : Status) → (s ≡ status.Usage) ⊎ (s ≡ status.Memory) → s ≢ status.Ok
-not_ok s which is = elim which [
-  | inl usage ↦ let odd : status.Usage ≡ status.Ok = sym usage ∙ is in cc
-  | inr memory ↦ let odd : status.Memory ≡ status.Ok = sym memory ∙ is in cc
-]
+isnt : (s other : Status) → (s ≡ status.Usage) ⊎ (s ≡ status.Memory) → status.Usage ≢ other → status.Memory ≢ other → s ≢ other
+isnt s other which first second is = elim which [ inl usage ↦ first (sym usage ∙ is) | inr memory ↦ second (sym memory ∙ is) ]
 
 -- Each outlet is as it was, and each operator's source.
 pub keeps_outlets : {I O K : Type 0} (told : ToldBySink K) (o : Option Job) (s : Status) (input : I) (output : O) (outlets : List (Option K))
     → (s ≡ status.Usage) ⊎ (s ≡ status.Memory) → (s ≡ status.Usage → NamesNoRun o)
     → KeepsOutlets told o s input input output output outlets outlets
-keeps_outlets told None s input output outlets which none = (which, (refl, (refl, refl)))
-keeps_outlets told (Some (Check form)) s input output outlets which none = (which, (refl, (refl, refl)))
-keeps_outlets told (Some (Sheet form)) s input output outlets which none = (which, (refl, (refl, refl)))
-keeps_outlets told (Some (Make n)) s input output outlets which none = (which, (refl, (refl, refl)))
-keeps_outlets told (Some (Script Render form)) s input output outlets which none = (which, (refl, (refl, refl)))
 keeps_outlets told (Some (Script (Live universes) form)) s input output outlets which none =
-    (none, inl refl, not_live s which, λ ok place start within at. absurd (not_ok s which ok))
-keeps_outlets told (Some (Script Undo form)) s input output outlets which none = (which, (refl, (refl, refl)))
-keeps_outlets told (Some (Script Two form)) s input output outlets which none = (which, (refl, (refl, refl)))
-keeps_outlets told (Some (Crew count form)) s input output outlets which none = (which, (refl, (refl, refl)))
+    (none, inl refl, isnt s status.Live which (λ e. cc) (λ e. cc), λ ok place start within at. absurd (isnt s status.Ok which (λ e. cc) (λ e. cc) ok))
+keeps_outlets told o s input output outlets which none = (which, (refl, (refl, refl)))
 
 pub keeps_operators : {I O S : Type 0} (o : Option Job) (s : Status) (input : I) (output : O) (operators : List (Option S))
     → (s ≡ status.Usage) ⊎ (s ≡ status.Memory) → (s ≡ status.Usage → NamesNoCrew o) → EachAt (λ place source. IsSome source) operators
     → KeepsOperators o s input input output output operators operators
-keeps_operators None s input output operators which none full = (which, (refl, (refl, refl)))
-keeps_operators (Some (Check form)) s input output operators which none full = (which, (refl, (refl, refl)))
-keeps_operators (Some (Sheet form)) s input output operators which none full = (which, (refl, (refl, refl)))
-keeps_operators (Some (Make n)) s input output operators which none full = (which, (refl, (refl, refl)))
-keeps_operators (Some (Script kind form)) s input output operators which none full = (which, (refl, (refl, refl)))
 keeps_operators (Some (Crew count form)) s input output operators which none full =
-    (none, not_live s which, record { same_places = refl; full = full; others = refl })
+    (none, isnt s status.Live which (λ e. cc) (λ e. cc), record { same_places = refl; full = full; others = refl })
+keeps_operators o s input output operators which none full = (which, (refl, (refl, refl)))

@@ -3,3 +3,4 @@ pub mod NamedJob
 pub mod Words
 pub mod Places
 pub mod Wants
+pub mod Imports

@@ -1,16 +1,9 @@
 //! The program as calls: from the words and the bytes that come in to the bytes that go out.
 
 ghost use Rattle.std.specs.Prelude.{◌≡◌, ◌≤◌, ℕ, true, Some, map, string_bytes};
-ghost use Rattle.std.specs.List.{list_any};
-ghost use Rattle.lx_spec.specs.Job.{job_of};
-ghost use Rattle.lx_session.specs.Spared.{HasStood};
-ghost use Rattle.lx_desk.specs.Endings.{AnswersWords, HasCauseOf, HasEnded, HasEndedBy};
-ghost use Rattle.lx_desk.specs.Finished.{Finishes, HasWanted};
-ghost use Rattle.lx_desk.specs.Output.{WritesPrefix};
+ghost use Rattle.lx_program.specs.Imports.{list_any, job_of, HasStood, AnswersWords, HasCauseOf, HasEnded, HasEndedBy, Finishes, HasWanted};
+ghost use Rattle.lx_program.specs.Imports.{WritesPrefix, begins_with_dash, OfJob, ReadsWordsOnce, WantsMemoryOrWords};
 ghost use Rattle.lx_spec.specs.declared.Job.TheVariants.{Make};
-ghost use Rattle.lx_program.specs.Words.{begins_with_dash};
-ghost use Rattle.lx_program.specs.NamedJob.{OfJob};
-ghost use Rattle.lx_program.specs.Wants.{ReadsWordsOnce, WantsMemoryOrWords};
 
 use crate::words::{WordsFault, words_of_in};
 use crate::words_heap::WordsHeap;
@@ -80,7 +73,7 @@ pub fn desk_in<H: Heap, S: Source, K: Sink>(
     ensures ended { OfJob (map string_bytes words.now) (S.left input.old)
         (λ job bytes. HasEnded result job bytes (S.left input.new) (K.holds output.old) (K.holds output.new)) }
 
-    // Where the heap refused nothing, no edit and no record was refused for want of memory.
+    // Where the heap refused nothing, no edit and no record was refused as out of memory.
     ensures spared { HasStood (H.refusals heap.old) (H.refusals heap.new) → OfJob (map string_bytes words.now) (S.left input.old)
         (λ job bytes. HasEndedBy true result job bytes (S.left input.new) (K.holds output.old) (K.holds output.new)) }
     ensures prefix { OfJob (map string_bytes words.now) (S.left input.old)

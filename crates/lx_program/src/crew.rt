@@ -1,15 +1,9 @@
 //! A crew as a call: `crew N`.
 
 ghost use Rattle.std.specs.Prelude.{◌≡◌, ◌≤◌, true, false, IsSome, length, map, string_bytes};
-ghost use Rattle.lx_base.specs.Places.{EachAt};
+ghost use Rattle.lx_program.specs.Imports.{EachAt, job_of, reads, HasStood, HandsOn, HasCrewCause, HasCrewEnded, KeepsOperators, TakesNoneOrWants};
+ghost use Rattle.lx_program.specs.Imports.{WritesCrewFront, Finishes, HasWanted, OfCrew, in_use, ReadsWordsOnce, WantsCrewOrWords, begins_with_dash, list_any};
 ghost use Rattle.lx_base.specs.declared.TheConstants.{OPERATORS};
-ghost use Rattle.lx_spec.specs.Job.{job_of};
-ghost use Rattle.lx_spec.specs.Reading.{reads};
-ghost use Rattle.lx_session.specs.Spared.{HasStood};
-ghost use Rattle.lx_desk.specs.Crew.{HandsOn, HasCrewCause, HasCrewEnded, KeepsOperators, TakesNoneOrWants, WritesCrewFront};
-ghost use Rattle.lx_desk.specs.Finished.{Finishes, HasWanted};
-ghost use Rattle.lx_program.specs.NamedJob.{OfCrew, in_use};
-ghost use Rattle.lx_program.specs.Wants.{ReadsWordsOnce, WantsCrewOrWords};
 
 use crate::words::{WordsFault, crew_of};
 use crate::words_heap::WordsHeap;
@@ -64,6 +58,9 @@ pub fn desk_crew<R: Threads + Wait + Sync, I: Source, S: Source + Send + Drop, K
     ensures handed_on { HandsOn K.Sink output.old output.new result }
     ensures cause { HasCrewCause S.Source result (I.faults input.old) (I.faults input.new) (K.faults output.old) (K.faults output.new)
         (in_use (job_of (map string_bytes words.now))) operators.old operators.new }
+
+    // Words of which one begins with a dash are never out of memory.
+    ensures dash { list_any begins_with_dash (map string_bytes words.now) ≡ true → result ≡ Status.Usage }
 {
     desk_crew_in(
         rt,
@@ -106,7 +103,7 @@ pub fn desk_crew_in<
         (λ count form bytes. HasCrewEnded false S.Source count form bytes (I.left input.new) operators.old operators.new
         (K.holds output.old) (K.holds output.new) result) }
 
-    // Where the heap refused nothing no edit was refused for want of memory.
+    // Where the heap refused nothing no edit was refused as out of memory.
     ensures spared { HasStood (H.refusals heap.old) (H.refusals heap.new) → OfCrew (job_of (map string_bytes words.now)) (I.left input.old)
         (λ count form bytes. HasCrewEnded true S.Source count form bytes (I.left input.new) operators.old operators.new
         (K.holds output.old) (K.holds output.new) result) }
@@ -127,6 +124,7 @@ pub fn desk_crew_in<
         × ((input.new ≡ input.old) × ((output.new ≡ output.old) × (operators.new ≡ operators.old))))) result }
     ensures cause { HasCrewCause S.Source result (I.faults input.old) (I.faults input.new) (K.faults output.old) (K.faults output.new)
         (in_use (job_of (map string_bytes words.now))) operators.old operators.new }
+    ensures dash { list_any begins_with_dash (map string_bytes words.now) ≡ true → result ≡ Status.Usage }
     ensures later { H.refusals heap.old ≤ H.refusals heap.new }
     ensures queues_later { queues.old ≤ queues.new }
     ensures words_later { words_heap.old ≤ words_heap.new }

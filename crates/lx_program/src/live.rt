@@ -1,13 +1,9 @@
 //! A live run as a call: `run U`.
 
 ghost use Rattle.std.specs.Prelude.{◌≡◌, ◌≤◌, true, false, length, map, string_bytes};
+ghost use Rattle.lx_program.specs.Imports.{job_of, IsFull, Finishes, any_memory, ByLiveMemory, DecidesInOrder, HasLiveCause, HasLived, KeepsOutlets};
+ghost use Rattle.lx_program.specs.Imports.{LivesToEnd, OfRun, ReadsWordsOnce, WantsRunOrWords, begins_with_dash, list_any};
 ghost use Rattle.lx_base.specs.declared.TheConstants.{UNIVERSES};
-ghost use Rattle.lx_spec.specs.Job.{job_of};
-ghost use Rattle.lx_workers.specs.Places.{IsFull};
-ghost use Rattle.lx_desk.specs.Finished.{Finishes};
-ghost use Rattle.lx_desk.specs.Live.{any_memory, ByLiveMemory, DecidesInOrder, HasLiveCause, HasLived, KeepsOutlets, LivesToEnd};
-ghost use Rattle.lx_program.specs.NamedJob.{OfRun};
-ghost use Rattle.lx_program.specs.Wants.{ReadsWordsOnce, WantsRunOrWords};
 
 use crate::words::{WordsFault, live_run_of};
 use crate::words_heap::WordsHeap;
@@ -62,12 +58,14 @@ pub fn desk_live<
     // output is handed on; with ReadFault all replies before it are.
     ensures cause { HasLiveCause K.Sink result (S.faults input.old) (S.faults input.new) (O.faults output.old) (O.faults output.new)
         outlets.old outlets.new }
-    ensures order { OfRun (job_of (map string_bytes words.now)) (S.left input.old)
-        (λ universes form bytes. DecidesInOrder result (S.faults input.old) (S.faults input.new) O.Sink output.old output.new
-        outlets.old outlets.new
-        (λ Told. LivesToEnd any_memory Told K.Sink universes form bytes (O.holds output.old) (O.holds output.new)
+    ensures order { DecidesInOrder result (S.faults input.old) (S.faults input.new) O.Sink output.old output.new outlets.old outlets.new
+        (λ Told. OfRun (job_of (map string_bytes words.now)) (S.left input.old)
+        (λ universes form bytes. LivesToEnd any_memory Told K.Sink universes form bytes (O.holds output.old) (O.holds output.new)
         outlets.old outlets.new)) }
     ensures finished { Finishes (S.faults input.old) (S.faults input.new) O.Sink output.old output.new result }
+
+    // Words of which one begins with a dash are never out of memory.
+    ensures dash { list_any begins_with_dash (map string_bytes words.now) ≡ true → result ≡ Status.Usage }
 {
     desk_live_in(
         rt,
@@ -110,7 +108,7 @@ pub fn desk_live_in<
     ensures outlets { KeepsOutlets K.Sink (job_of (map string_bytes words.now)) result input.old input.new output.old
         output.new outlets.old outlets.new }
 
-    // Where the heap refused nothing no edit was refused for want of memory, as long as fewer than 2^62 commands were accepted. Where the
+    // Where the heap refused nothing no edit was refused as out of memory, as long as fewer than 2^62 commands were accepted. Where the
     // writer's refused nothing all accepted commands were published, however the run ended.
     ensures ended { ByLiveMemory (H.refusals heap.old) (H.refusals heap.new) writers.old writers.new
         (λ ample. OfRun (job_of (map string_bytes words.now)) (S.left input.old)
@@ -119,12 +117,12 @@ pub fn desk_live_in<
     ensures cause { HasLiveCause K.Sink result (S.faults input.old) (S.faults input.new) (O.faults output.old) (O.faults output.new)
         outlets.old outlets.new }
     ensures order { ByLiveMemory (H.refusals heap.old) (H.refusals heap.new) writers.old writers.new
-        (λ ample. OfRun (job_of (map string_bytes words.now)) (S.left input.old)
-        (λ universes form bytes. DecidesInOrder result (S.faults input.old) (S.faults input.new) O.Sink output.old output.new
-        outlets.old outlets.new
-        (λ Told. LivesToEnd ample Told K.Sink universes form bytes (O.holds output.old) (O.holds output.new)
+        (λ ample. DecidesInOrder result (S.faults input.old) (S.faults input.new) O.Sink output.old output.new outlets.old outlets.new
+        (λ Told. OfRun (job_of (map string_bytes words.now)) (S.left input.old)
+        (λ universes form bytes. LivesToEnd ample Told K.Sink universes form bytes (O.holds output.old) (O.holds output.new)
         outlets.old outlets.new))) }
     ensures finished { Finishes (S.faults input.old) (S.faults input.new) O.Sink output.old output.new result }
+    ensures dash { list_any begins_with_dash (map string_bytes words.now) ≡ true → result ≡ Status.Usage }
 
     // Memory is told only where the heap refused some, or the writer's did, or the output or an outlet itself is out of memory; or where
     // the words' heap did, before anything was asked of them.

@@ -7,7 +7,6 @@ ghost use Rattle.lx_program.specs.Places.{AreFilled, OfEachPlace};
 
 use lx_base::OPERATORS;
 use lx_io::{Failed, Source};
-use std::alloc::Global;
 use std::fs::File;
 use std::io::Read;
 use std::rt::Files;
@@ -16,37 +15,29 @@ use std::{fs, io};
 /// A place for each operator.
 pub const PLACES: usize = OPERATORS as usize;
 
-/// The file `operator-K.txt` in the current folder. It is opened at its first read, so that a named pipe of that name is
+/// A file of this name in the current folder. It is opened at its first read, so that a named pipe of that name is
 /// awaited then, by the operator alone; one that can't be opened is a read that failed.
 #[derive(Drop)]
 pub struct OperatorFile<'r, R> {
     rt: &'r R,
-    alloc: Global,
-    operator: u8,
+    name: &'static str,
     file: Option<File>,
     faults: u64,
     given: usize,
 }
 
 impl<'r, R: Files<File = File>> OperatorFile<'r, R> {
-    /// The file of an operator, from 1 to `OPERATORS`. Nothing is opened yet, and no fault was told.
-    pub fn new(rt: &'r R, alloc: Global, operator: u8) -> OperatorFile<'r, R>
+    /// The file of this name. Nothing is opened yet, and no fault was told.
+    pub fn new(rt: &'r R, name: &'static str) -> OperatorFile<'r, R>
         ensures faults { ⟦<OperatorFile<'r, R> as Source>⟧.faults result ≡ 0 }
     {
         OperatorFile {
             rt,
-            alloc,
-            operator,
+            name,
             file: None,
             faults: 0,
             given: 0,
         }
-    }
-
-    /// Opens the file.
-    fn open(&self) -> io::Result<File> {
-        let path = format!(in self.alloc; "operator-{}.txt", self.operator)?;
-        fs::open(self.rt, path)
     }
 
     /// Reads a piece, from the file's beginning on.
@@ -56,7 +47,7 @@ impl<'r, R: Files<File = File>> OperatorFile<'r, R> {
     {
         let mut file = match self.file.take() {
             Some(file) => file,
-            None => self.open()?,
+            None => fs::open(self.rt, self.name)?,
         };
         let count = file.read(buf);
         self.file = Some(file);
@@ -85,27 +76,24 @@ impl<R: Files<File = File>> Source for OperatorFile<'_, R> {
     }
 }
 
-/// The files of all operators. None has told a fault.
-pub fn scripts<R: Files<File = File>>(
-    rt: &R,
-    alloc: Global,
-) -> [Option<OperatorFile<'_, R>>; PLACES]
+/// The files of all operators: `operator-1.txt` and so on. None has told a fault.
+pub fn scripts<R: Files<File = File>>(rt: &R) -> [Option<OperatorFile<'_, R>>; PLACES]
     ensures count { length result ≡ OPERATORS }
     ensures full { AreFilled result }
     ensures faults { OfEachPlace result (λ script. script.faults ≡ 0) }
 {
     [
-        script(rt, alloc, 1),
-        script(rt, alloc, 2),
-        script(rt, alloc, 3),
-        script(rt, alloc, 4),
+        script(rt, "operator-1.txt"),
+        script(rt, "operator-2.txt"),
+        script(rt, "operator-3.txt"),
+        script(rt, "operator-4.txt"),
     ]
 }
 
-/// The file of an operator.
-fn script<R: Files<File = File>>(rt: &R, alloc: Global, operator: u8) -> Option<OperatorFile<'_, R>>
+/// An operator's file.
+fn script<'r, R: Files<File = File>>(rt: &'r R, name: &'static str) -> Option<OperatorFile<'r, R>>
     ensures some { IsSome result }
     ensures faults { IfSome result (λ script. script.faults ≡ 0) }
 {
-    Some(OperatorFile::new(rt, alloc, operator))
+    Some(OperatorFile::new(rt, name))
 }

@@ -1,14 +1,11 @@
 //! The words of the command line.
 
 ghost use Rattle.std.specs.Prelude.{◌≡◌, ◌≤◌, true, false, None, Some, Err, map, option_map, string_bytes, IfOk, IfErr, IfSome};
-ghost use Rattle.std.specs.List.{list_any};
+ghost use Rattle.lx_program.specs.Imports.{list_any, job_of, form_of, number_alone, plain_number, counted_job, ended, JobInRange, NamesNoCrew};
+ghost use Rattle.lx_program.specs.Imports.{NamesNoRun, begins_with_dash};
 ghost use Rattle.lx_base.specs.declared.TheConstants.{OPERATORS, UNIVERSES};
 ghost use Rattle.lx_spec.specs.declared.Job.TheVariants.{Crew, Script};
 ghost use Rattle.lx_spec.specs.declared.ScriptKind.TheVariants.{Live};
-ghost use Rattle.lx_spec.specs.Job.{job_of, form_of, number_alone, plain_number, counted_job};
-ghost use Rattle.lx_spec.specs.Phrase.{ended};
-ghost use Rattle.lx_program.specs.NamedJob.{JobInRange, NamesNoCrew, NamesNoRun};
-ghost use Rattle.lx_program.specs.Words.{begins_with_dash};
 ghost use Rattle.lx_io.specs.Causes.{HasCauseOf};
 
 use crate::words_heap::{WORD, WordsHeap};
@@ -67,6 +64,7 @@ pub(crate) fn live_run_of(heap: &mut WordsHeap, words: &[String]) -> Result<(u8,
     ensures run { IfOk result (λ named. job_of (map string_bytes words.now) ≡ Some (Script (Live named.0) named.1)) }
     ensures range { IfOk result (λ named. (1 ≤ named.0) × (named.0 ≤ UNIVERSES)) }
     ensures usage { result ≡ Err WordsFault.Usage → NamesNoRun (job_of (map string_bytes words.now)) }
+    ensures dash { list_any begins_with_dash (map string_bytes words.now) ≡ true → result ≡ Err WordsFault.Usage }
     ensures cause { HasCauseOf WordsFault.Memory heap.old heap.new result }
 {
     match words_of_in(heap, words)? {
@@ -83,6 +81,7 @@ pub(crate) fn crew_of(heap: &mut WordsHeap, words: &[String]) -> Result<(u8, For
     ensures crew { IfOk result (λ named. job_of (map string_bytes words.now) ≡ Some (Crew named.0 named.1)) }
     ensures range { IfOk result (λ named. (1 ≤ named.0) × (named.0 ≤ OPERATORS)) }
     ensures usage { result ≡ Err WordsFault.Usage → NamesNoCrew (job_of (map string_bytes words.now)) }
+    ensures dash { list_any begins_with_dash (map string_bytes words.now) ≡ true → result ≡ Err WordsFault.Usage }
     ensures cause { HasCauseOf WordsFault.Memory heap.old heap.new result }
 {
     match words_of_in(heap, words)? {

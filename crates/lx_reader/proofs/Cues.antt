@@ -1,11 +1,10 @@
 -- A cue, group or submaster from the entries in its sections, with one more.
-use Rattle.lx_reader.proofs.Imports.{◌≡◌, ℕ, Bool, true, false, cond, List, [], ◌∷◌, ◌++◌, map, Option, Some, None, refl, ap, ◌∙◌, sym}
-use Rattle.lx_reader.proofs.Imports.{append-nil, filter, fold, filter_map, unwrap_or, ◌==◌, cons_option, DEFAULT_TIME, Part, Section, Cue}
-use Rattle.lx_reader.proofs.Imports.{IsStrictlySorted, placed, has_entry, Entry, PlacedEntry, HasUp, HasDown, NamesPart, part_named}
-use Rattle.lx_reader.proofs.Imports.{follow_in, link_in, label_in, up_in, down_in, blocks, is_assert, last_of_each, last_in, moves_in}
-use Rattle.lx_reader.proofs.Imports.{part_from, parts_from, label_from, cue_from, new_part, changed_in, with_named, eqb-true, IfSome, subst}
-use Rattle.lx_reader.proofs.Imports.{with_up, with_down, parts_with, cue_with, change_by, MemberSet, HasLevels, levels_in, group_from}
-use Rattle.lx_reader.proofs.Imports.{set_with}
+use Rattle.lx_reader.proofs.Imports.{◌≡◌, ℕ, Bool, true, false, cond, List, [], ◌∷◌, ◌++◌, map, Option, Some, None, refl, ap, ◌∙◌, sym, append-nil}
+use Rattle.lx_reader.proofs.Imports.{filter, fold, filter_map, unwrap_or, ◌==◌, cons_option, DEFAULT_TIME, Part, Section, Cue, IsStrictlySorted}
+use Rattle.lx_reader.proofs.Imports.{placed, has_entry, Entry, PlacedEntry, HasUp, HasDown, NamesPart, part_named, follow_in, link_in, label_in}
+use Rattle.lx_reader.proofs.Imports.{up_in, down_in, blocks, is_assert, last_of_each, last_in, moves_in, part_from, parts_from, label_from, cue_from}
+use Rattle.lx_reader.proofs.Imports.{new_part, changed_in, with_named, eqb-true, IfSome, subst, with_up, with_down, parts_with, cue_with, change_by}
+use Rattle.lx_reader.proofs.Imports.{MemberSet, HasLevels, levels_in, group_from, set_with}
 use Rattle.lx_reader.proofs.LastEntries.{last_in-more, any-more, unwrap-later, filter-more, fold_flat-more, fold_picked-more}
 use Rattle.lx_reader.proofs.PlacedNumbers.{IsStrictlySorted-numbers, after_change, listed-more}
 

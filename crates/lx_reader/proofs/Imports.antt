@@ -4,13 +4,12 @@ pub use Rattle.std.proofs.Common.{arith, Bool, codes, cond, count_by, drop, drop
 pub use Rattle.std.proofs.Common.{get_or, IfErr, IfOk, IfSome, inl, inr, is_ok, is_some, IsTrue, length, length-append, List, map, max, nat_lt, None}
 pub use Rattle.std.proofs.Common.{not, Ok, OnOk, Option, option_and_then, option_map, position, refl, replicate, Result, slice_get, slice_set, Some}
 pub use Rattle.std.proofs.Common.{subst, suc, sym, take, take_all, true, unwrap_or, zero}
-pub use Rattle.lx_base.specs.declared.TheConstants.{CHANNELS, CUES, DEFAULT_CHANNELS, DEFAULT_TIME, DIMMERS, GROUPS, INPUT_BYTES, LINE_BYTES, PARTS}
-pub use Rattle.lx_base.specs.declared.TheConstants.{SUBS}
+pub use Rattle.lx_base.specs.declared.TheConstants.{CHANNELS, CUES, DEFAULT_CHANNELS, DEFAULT_TIME, GROUPS, INPUT_BYTES, LINE_BYTES, PARTS, SUBS}
 pub use Rattle.lx_lex.proofs.CuttingOff.{cut_off, not_read, too_long}
 pub use Rattle.lx_lex.proofs.HandingOut.{handed_none, handed_one, handed_then}
 pub use Rattle.lx_lex.specs.CutOff.{NotTaken}
 pub use Rattle.lx_lex.specs.Left.{left}
-pub use Rattle.lx_lex.specs.Lines.{LinesBetween, StepOf}
+pub use Rattle.lx_lex.specs.Lines.{LinesBetween}
 pub use Rattle.lx_lex.specs.LinesHandedOut.{HandedOut}
 pub use Rattle.lx_lex.specs.Unread.{current_line, unread}
 pub use Rattle.lx_lex.specs.declared.lines.Lines.{Lines}
@@ -36,8 +35,9 @@ pub use Rattle.lx_show.proofs.ValidShows.{wider, wider_cue, wider_members, wider
 pub use Rattle.lx_show.specs.ChangedEntry.{changed}
 pub use Rattle.lx_spec.proofs.Comparisons.{above_is_other, below_is_other, eq_above, eq_from, eq_true, lt_false, lt_true}
 pub use Rattle.lx_spec.proofs.Lists.{all_append, each, find_has, kept_by}
-pub use Rattle.lx_spec.proofs.SortedLists.{above_seam, all_at_seam, below_seam, entry_at-placed_here, entry_at-placed_other, entry_number, found_valid}
-pub use Rattle.lx_spec.proofs.SortedLists.{goes_between, has_placed, IsStrictlySorted-placed, placed_again, placed_same, seam, stands_between}
+pub use Rattle.lx_spec.proofs.SortedLists.{above_seam, all_at_seam, below_seam, entry_at-placed_here, entry_at-placed_other, entry_number}
+pub use Rattle.lx_spec.proofs.SortedLists.{found_valid, goes_between, has_placed, IsStrictlySorted-placed, placed_again, placed_same, seam}
+pub use Rattle.lx_spec.proofs.SortedLists.{stands_between}
 pub use Rattle.lx_spec.specs.EditedShow.{new_cue, new_part}
 pub use Rattle.lx_spec.specs.Entry.{Asserts, Begins, Blocks, blocks, channels_set, clears_all, ClearsAll, cue_in, down_in, Ends, Entry, follow_in}
 pub use Rattle.lx_spec.specs.Entry.{Follows, group_in, HasChannels, HasDown, HasLevels, HasUp, Identifies, is_assert, is_end, is_skipped, IsLabelled}
@@ -49,7 +49,7 @@ pub use Rattle.lx_spec.specs.FirstRefusal.{◌>>=◌}
 pub use Rattle.lx_spec.specs.Limits.{desk_limits}
 pub use Rattle.lx_spec.specs.LineRules.{cue_entry, entry_by_tokens, entry_by_word, entry_of, if_few, inner_entry, members_entry}
 pub use Rattle.lx_spec.specs.Looks.{by_form, from_looks}
-pub use Rattle.lx_spec.specs.Numerals.{read_cue_no, read_level, read_time, read_whole}
+pub use Rattle.lx_spec.specs.Numerals.{read_cue_no, read_time, read_whole}
 pub use Rattle.lx_spec.specs.Reading.{channels_named, count_read, cue_from, each_record, entries, group_from, label_from, last_in, last_of_each}
 pub use Rattle.lx_spec.specs.Reading.{lines_read, moves_in, numbers_begun, part_from, parts_from, reading_from, reads_lines, script_of, show_from}
 pub use Rattle.lx_spec.specs.Reading.{stands_in, sub_from}

@@ -1,15 +1,16 @@
 -- Lines known by their first word or by their first bytes.
-use Rattle.lx_reader.proofs.Imports.{◌≡◌, ◌≤◌, true, false, cond, List, [], ◌∷◌, ◌++◌, filter, length, Err, refl, ap, sym, ◌∙◌, ℕ, codes, take}
-use Rattle.lx_reader.proofs.Imports.{take_all, arith, LINE_BYTES, Move, Section, NoRecord, InCue, InGroup, InSub, Skipping, LineTooLong, Facts, Word}
-use Rattle.lx_reader.proofs.Imports.{levels, entry_by_tokens, entry_by_word, entry_of, FirstIsWord, Show, tokens, lt_false, Open, OpenFits, is_open}
+use Rattle.lx_reader.proofs.Imports.{◌≡◌, ◌≤◌, true, cond, List, ◌∷◌, ◌++◌, length, Err, refl, ap, sym, ◌∙◌, ℕ, codes, take, take_all, arith}
+use Rattle.lx_reader.proofs.Imports.{LINE_BYTES, Move, Section, NoRecord, InCue, InGroup, InSub, Skipping, LineTooLong, Facts, Word, levels}
+use Rattle.lx_reader.proofs.Imports.{entry_by_tokens, entry_by_word, entry_of, FirstIsWord, Show, tokens, lt_false, Open, OpenFits, is_open}
 use Rattle.lx_reader.proofs.Imports.{is_record}
 use Rattle.std.proofs.Common.{◌-◌, drop, eqb, length-drop}
 use Rattle.std.proofs.lemmas.Bool.Decides.{Decides-eqb}
 use Rattle.std.proofs.lemmas.Slice.Eq.{starts_is}
-use Rattle.std.proofs.lemmas.List.Splits.{slice_split-cons_yes, slice_split-cons_no}
-use Rattle.std.specs.List.{before_first, onto_first, slice_split, starts_with}
-use Rattle.lx_lex.proofs.LineCuts.{before_first-no}
-use Rattle.lx_spec.specs.Text.{begins_comment, is_filled, is_separator}
+use Rattle.std.specs.List.{starts_with}
+use Rattle.lx_lex.proofs.FirstTokens.{token_first}
+use Rattle.lx_lex.proofs.LineCuts.{tokens_by-separator}
+use Rattle.lx_lex.proofs.Separators.{apart}
+use Rattle.lx_spec.specs.Text.{begins_comment, is_separator}
 use Rattle.lx_spec.specs.declared.Word.TheVariants as words
 use Rattle.lx_reader.specs.declared.open_record.Open.TheVariants as open_records
 
@@ -44,28 +45,9 @@ levels_entry facts line rest short cut identified inside =
     ∙ (λ j. entry_by_word (record facts { identified = identified j }) line words.Chan rest)
     ∙ levels_in_record facts line rest facts.section inside
 
--- the pieces of a line between separators, before the comment
-abbrev pieces : List ℕ → List (List ℕ)
-pieces line = slice_split is_separator (before_first begins_comment line)
-
-piece_on : (b : ℕ) (line : List ℕ) → is_separator b ≡ false → begins_comment b ≡ false → pieces (b ∷ line) ≡ onto_first b (pieces line)
-piece_on b line other no_mark =
-    ap (slice_split is_separator) (before_first-no begins_comment b line no_mark)
-    ∙ slice_split-cons_no is_separator b (before_first begins_comment line) other
-
-piece_ends : (b : ℕ) (line : List ℕ) → is_separator b ≡ true → begins_comment b ≡ false → pieces (b ∷ line) ≡ [] ∷ pieces line
-piece_ends b line separates no_mark =
-    ap (slice_split is_separator) (before_first-no begins_comment b line no_mark)
-    ∙ slice_split-cons_yes is_separator b (before_first begins_comment line) separates
-
 rows_cut : (rest : List ℕ) → tokens (codes "PATCH " ++ rest) ≡ codes "PATCH" ∷ tokens rest
-rows_cut rest =
-    ap (filter is_filled) (piece_on 80 (codes "ATCH " ++ rest) refl refl
-    ∙ ap (onto_first 80) (piece_on 65 (codes "TCH " ++ rest) refl refl
-    ∙ ap (onto_first 65) (piece_on 84 (codes "CH " ++ rest) refl refl
-    ∙ ap (onto_first 84) (piece_on 67 (codes "H " ++ rest) refl refl
-    ∙ ap (onto_first 67) (piece_on 72 (codes " " ++ rest) refl refl
-    ∙ ap (onto_first 72) (piece_ends 32 rest refl refl))))))
+rows_cut rest = token_first {token = codes "PATCH"} {rest = 32 ∷ rest} {others = rest} (omega arith) refl
+    (record { ends = refl; same = tokens_by-separator is_separator begins_comment apart 32 rest refl })
 
 -- a line that begins with PATCH and a space
 pub rows_tokens : (line : List ℕ) → starts_with eqb line (codes "PATCH ") ≡ true

@@ -17,7 +17,6 @@ pub mod Pairs
 mod PercentLevels
 pub mod ReadingStates
 pub mod ReadLines
-pub mod PassedLines
 pub mod LinePass
 pub mod LookMoves
 mod Imports

@@ -4,8 +4,7 @@ use Rattle.lx_reader.proofs.Imports.{◌∙◌, sym, subst, ◌||◌, ◌==◌, 
 use Rattle.lx_reader.proofs.Imports.{entry_at, has_entry, TextFault, NoIdent, OutOfRange, PatchRow, read_time, read_whole, ◌>>=◌, Cue, Show, Section}
 use Rattle.lx_reader.proofs.Imports.{NoRecord, InCue, Skipping, Entry, Skipped, Begins, Patches, times, number, delay_at, is_page_one, record_entry}
 use Rattle.lx_reader.proofs.Imports.{if_few, entry_by_word, Reader, ShowFault, all_triples, next_times, record_number, facts_of, state_of, IsStep}
-use Rattle.lx_reader.proofs.Imports.{Outcome, with_rows, placed_in, show_with, tokens, length-map}
-use Rattle.lx_reader.proofs.Imports.{IsBetween, Move, Open, with_open}
+use Rattle.lx_reader.proofs.Imports.{Outcome, with_rows, placed_in, show_with, tokens, length-map, IsBetween, Move, Open, with_open}
 use Rattle.lx_reader.specs.declared.reading.ShowPass.{ShowPass}
 use Rattle.lx_spec.specs.declared.Bad.{Bad}
 use Rattle.lx_spec.specs.declared.Word.TheVariants as words

@@ -1,11 +1,11 @@
 -- The moves of a look, channel by channel, and the cues whose looks become moves, from the last one on.
 use Rattle.lx_reader.proofs.Imports.{◌≡◌, ℕ, suc, zero, ◌+◌, ◌<◌, ◌≤◌, Bool, true, false, cond, List, [], ◌∷◌, ◌++◌, map, length, take, drop, get_or}
-use Rattle.lx_reader.proofs.Imports.{Option, Some, None, refl, ap, ◌∙◌, sym, subst, arith, add-one, append-nil, append_assoc, IsTrue, filter}
-use Rattle.lx_reader.proofs.Imports.{each, not, ◌==◌, ◌-◌, IfSome, option_map_or, IsSomeAnd, AllByRecursion, range_with_len, take-append_seam, map-append}
+use Rattle.lx_reader.proofs.Imports.{Option, Some, None, refl, ap, ◌∙◌, sym, subst, arith, add-one, append-nil, append_assoc, IsTrue, filter, each}
+use Rattle.lx_reader.proofs.Imports.{not, ◌==◌, ◌-◌, IfSome, option_map_or, IsSomeAnd, AllByRecursion, range_with_len, take-append_seam, map-append}
 use Rattle.lx_reader.proofs.Imports.{filter-append, Move, Part, from_looks, IsStrictlySorted, placed, has_entry, entry_at, entries_below}
 use Rattle.lx_reader.proofs.Imports.{entries_above, Cue, Show, InRange, ValidMove, ValidCue, Valid, cue_of, move_in, level_in, changed, kept_by}
-use Rattle.lx_reader.proofs.Imports.{find_has, seam, goes_between, stands_between, all_at_seam, below_seam, above_seam, last_look}
-use Rattle.lx_reader.proofs.Imports.{look_changes, look_move, moves_up_to, with_look, new_cue}
+use Rattle.lx_reader.proofs.Imports.{find_has, seam, goes_between, stands_between, all_at_seam, below_seam, above_seam, last_look, look_changes}
+use Rattle.lx_reader.proofs.Imports.{look_move, moves_up_to, with_look, new_cue}
 use Rattle.std.proofs.Math.Seq.{take-suc, drop-cons, get_or-append_seam}
 use Rattle.std.proofs.lemmas.List.{length-take-le}
 use Rattle.lx_reader.proofs.Members.{all_map}

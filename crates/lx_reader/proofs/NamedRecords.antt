@@ -1,10 +1,9 @@
 -- What the section is of was begun, and is there: before a line, and after it. Of what was not begun nothing was said.
 use Rattle.lx_reader.proofs.Imports.{◌≡◌, ℕ, true, cond, List, [], ◌∷◌, ◌++◌, Option, Some, None, refl, ap, ◌∙◌, sym, subst, IsTrue, filter}
-use Rattle.lx_reader.proofs.Imports.{filter_map, fold, map, is_some, unwrap_or, option_and_then, cons_option, IsSomeAnd, eqb-true, placed}
-use Rattle.lx_reader.proofs.Imports.{has_entry, cue_of, with_cue_named, Section, NoRecord, InCue, InGroup, InSub, Skipping, PlacedEntry}
-use Rattle.lx_reader.proofs.Imports.{section_begun, part_named, cue_in, group_in, sub_in, numbers_begun, stands_in, cue_from, group_from}
-use Rattle.lx_reader.proofs.Imports.{sub_from, HasPartIn, IsOpen, number_begun, Bool, false, append-nil, ◌==◌, false_from_ne_true}
-use Rattle.lx_reader.proofs.Imports.{true≢false}
+use Rattle.lx_reader.proofs.Imports.{filter_map, fold, map, is_some, unwrap_or, option_and_then, cons_option, IsSomeAnd, eqb-true, placed, has_entry}
+use Rattle.lx_reader.proofs.Imports.{cue_of, with_cue_named, Section, NoRecord, InCue, InGroup, InSub, Skipping, PlacedEntry, section_begun}
+use Rattle.lx_reader.proofs.Imports.{part_named, cue_in, group_in, sub_in, numbers_begun, stands_in, cue_from, group_from, sub_from, HasPartIn}
+use Rattle.lx_reader.proofs.Imports.{IsOpen, number_begun, Bool, false, append-nil, ◌==◌, false_from_ne_true, true≢false}
 use Rattle.lx_reader.proofs.LastEntries.{filter-more}
 use Rattle.lx_reader.proofs.PlacedNumbers.{entry_made, has_made, has-here, has-all_placed, eq-here, is_at}
 use Rattle.lx_reader.proofs.Cues.{part_of, parts_named, parts_named-more, HasPart}

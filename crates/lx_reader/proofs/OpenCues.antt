@@ -1,11 +1,10 @@
 -- A cue that is open: what a line says of it, and that it stays valid.
 use Rattle.lx_reader.proofs.Imports.{◌≡◌, ℕ, ◌≤◌, true, false, cond, List, Some, None, ap, ◌∙◌, sym, subst, IsTrue, arith, IfSome, ◌==◌}
-use Rattle.lx_reader.proofs.Imports.{AllByRecursion, option_map_or, PARTS, Member, Move, Part, new_part, Entry, NamesPart, HasUp, HasDown}
-use Rattle.lx_reader.proofs.Imports.{Follows, Links, IsLabelled, Blocks, Asserts, Cue, InRange, MemberSet, Show, ValidCue, ValidMember}
-use Rattle.lx_reader.proofs.Imports.{ValidMove, ValidPart, ValidSet, all_placed, entry_at, has_entry, placed, each, find_has, has_placed}
-use Rattle.lx_reader.proofs.Imports.{changed, with_other_moves, with_settings, All-all_placed, IsStrictlySorted-all_placed, ChangesCue}
-use Rattle.lx_reader.proofs.Imports.{HasRanges, is_own, cue_with, parts_with, with_down, part_with_entry, with_up, members_of, CueFits, SetFits}
-use Rattle.lx_reader.proofs.Imports.{filled_cue, filled_set}
+use Rattle.lx_reader.proofs.Imports.{AllByRecursion, option_map_or, PARTS, Member, Move, Part, new_part, Entry, NamesPart, HasUp, HasDown, Follows}
+use Rattle.lx_reader.proofs.Imports.{Links, IsLabelled, Blocks, Asserts, Cue, InRange, MemberSet, Show, ValidCue, ValidMember, ValidMove, ValidPart}
+use Rattle.lx_reader.proofs.Imports.{ValidSet, all_placed, entry_at, has_entry, placed, each, find_has, has_placed, changed, with_other_moves}
+use Rattle.lx_reader.proofs.Imports.{with_settings, All-all_placed, IsStrictlySorted-all_placed, ChangesCue, HasRanges, is_own, cue_with, parts_with}
+use Rattle.lx_reader.proofs.Imports.{with_down, part_with_entry, with_up, members_of, CueFits, SetFits, filled_cue, filled_set}
 use Rattle.lx_show.proofs.ChangedCues.{with_placed_part}
 use Rattle.lx_show.proofs.PlacedEntries.{has_changed}
 

@@ -1,7 +1,7 @@
 -- Levels of a line that go to the open record.
-use Rattle.lx_reader.proofs.Imports.{◌≡◌, ℕ, ◌≤◌, true, false, List, [], ◌++◌, map, Ok, refl, ap, ◌∙◌, sym, subst, append-nil, arith, IsTrue}
-use Rattle.lx_reader.proofs.Imports.{fold, max, AllByRecursion, IsOkAnd, GROUPS, SUBS, Move, HasLevels, levels, ◌>>=◌, desk_limits, Cue}
-use Rattle.lx_reader.proofs.Imports.{MemberSet, Show, ValidMember, ValidMove, IsStrictlySorted, all_placed, has_entry, each, All-all_placed}
+use Rattle.lx_reader.proofs.Imports.{◌≡◌, ℕ, ◌≤◌, true, false, List, [], ◌++◌, map, Ok, refl, ap, ◌∙◌, sym, subst, append-nil, arith, IsTrue, fold}
+use Rattle.lx_reader.proofs.Imports.{max, AllByRecursion, IsOkAnd, GROUPS, SUBS, Move, HasLevels, levels, ◌>>=◌, desk_limits, Cue, MemberSet, Show}
+use Rattle.lx_reader.proofs.Imports.{ValidMember, ValidMove, IsStrictlySorted, all_placed, has_entry, each, All-all_placed}
 use Rattle.lx_reader.proofs.Imports.{IsStrictlySorted-all_placed, wider, wider_cue, wider_members, wider_move, Open, Reader, IsStep, Outcome}
 use Rattle.lx_reader.proofs.Imports.{ReadsLevels, members_of, IsOpen, cue_with, moves_of, set_with, CueFits, OpenFits, SetFits, filled_cue}
 use Rattle.lx_reader.proofs.Imports.{filled_set, is_open, with_open}

@@ -1,7 +1,7 @@
 -- A record that begins: a new one, or one that was in the show, in whose place a bare one stands.
 use Rattle.lx_reader.proofs.Imports.{◌≡◌, ℕ, true, cond, List, Option, Some, refl, ap, ◌∙◌, sym, subst, IsTrue, ◌||◌, is_some, length, nat_lt}
-use Rattle.lx_reader.proofs.Imports.{AllByRecursion, CUES, IsStrictlySorted, entry_at, has_entry, placed, Cue, entry_at-placed_here}
-use Rattle.lx_reader.proofs.Imports.{entry_number, found_valid, placed_again, placed_same, with_entry}
+use Rattle.lx_reader.proofs.Imports.{AllByRecursion, CUES, IsStrictlySorted, entry_at, has_entry, placed, Cue, entry_at-placed_here, entry_number}
+use Rattle.lx_reader.proofs.Imports.{found_valid, placed_again, placed_same, with_entry}
 
 -- the record that stood where a bare one of the number was put
 module _ {A : Type 0} (key : A → ℕ) (n : ℕ) (xs : List A) {x : A} {o : Option A} (found : o ≡ entry_at key n xs) (is : o ≡ Some x) where

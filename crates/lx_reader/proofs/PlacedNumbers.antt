@@ -1,9 +1,9 @@
 -- Lists made of rising numbers, with an entry placed.
-use Rattle.lx_reader.proofs.Imports.{◌≡◌, ℕ, Bool, true, false, cond, List, [], ◌∷◌, ◌++◌, map, Option, Some, None, refl, ap, ◌∙◌, sym}
-use Rattle.lx_reader.proofs.Imports.{arith, filter, fold, nat_lt, ◌==◌, is_some, option_map_or, changed, map-append, eqb-true, nat_tests}
-use Rattle.lx_reader.proofs.Imports.{IsStrictlySorted, placed, entry_at, has_entry, last_of_each, above_is_other, below_is_other, eq_true}
-use Rattle.lx_reader.proofs.Imports.{IsStrictlySorted-all_placed, entry_at-placed_here, entry_number, has_placed, placed_same, inl, inr}
-use Rattle.lx_reader.proofs.Imports.{cases_Bool, IfSome, cons_option, with_named, changed_in, cond_both}
+use Rattle.lx_reader.proofs.Imports.{◌≡◌, ℕ, Bool, true, false, cond, List, [], ◌∷◌, ◌++◌, map, Option, Some, None, refl, ap, ◌∙◌, sym, arith, filter}
+use Rattle.lx_reader.proofs.Imports.{fold, nat_lt, ◌==◌, is_some, option_map_or, changed, map-append, eqb-true, nat_tests, IsStrictlySorted, placed}
+use Rattle.lx_reader.proofs.Imports.{entry_at, has_entry, last_of_each, above_is_other, below_is_other, eq_true, IsStrictlySorted-all_placed}
+use Rattle.lx_reader.proofs.Imports.{entry_at-placed_here, entry_number, has_placed, placed_same, inl, inr, cases_Bool, IfSome, cons_option}
+use Rattle.lx_reader.proofs.Imports.{with_named, changed_in, cond_both}
 
 pub eq-here : (n : ℕ) → (n == n) ≡ true
 eq-here n = eq_true n n refl

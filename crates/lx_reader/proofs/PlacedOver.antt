@@ -1,6 +1,6 @@
 -- A sorted list placed over another one: of each number its entry counts, where it has one.
-use Rattle.lx_reader.proofs.Imports.{◌≡◌, ℕ, List, [], ◌∷◌, Option, Some, None, refl, ap, ◌∙◌, sym, inl, inr, arith, fold, cases_eq, Member}
-use Rattle.lx_reader.proofs.Imports.{Move, IsStrictlySorted, all_placed, entry_at, placed, each, IsStrictlySorted-placed, entry_at-placed_here}
+use Rattle.lx_reader.proofs.Imports.{◌≡◌, ℕ, List, [], ◌∷◌, Option, Some, None, refl, ap, ◌∙◌, sym, inl, inr, arith, fold, cases_eq, Member, Move}
+use Rattle.lx_reader.proofs.Imports.{IsStrictlySorted, all_placed, entry_at, placed, each, IsStrictlySorted-placed, entry_at-placed_here}
 use Rattle.lx_reader.proofs.Imports.{entry_at-placed_other, IsStrictlySorted-all_placed, members_of, later, moves_of}
 use Rattle.std.proofs.lemmas.List.Folds.{fold-map}
 use Rattle.lx_show.proofs.SameLists.{first_here, first_other, none_low, same_lists}

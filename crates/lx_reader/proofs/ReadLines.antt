@@ -1,9 +1,9 @@
 -- A show text that is read line by line.
-use Rattle.lx_reader.proofs.Imports.{◌≡◌, ℕ, ◌+◌, ◌<◌, ◌≤◌, true, false, cond, List, [], ◌∷◌, ◌++◌, length, Result, Ok, Err, refl}
-use Rattle.lx_reader.proofs.Imports.{ap, ◌∙◌, sym, subst, arith, append_assoc, append-nil, length-append, nat_lt, IfSome, nat_tests}
-use Rattle.lx_reader.proofs.Imports.{LINE_BYTES, Form, TextFault, NoEndData, LineTooLong, desk_limits, tokens, ◌>>=◌, Entry, PlacedEntry, is_end}
-use Rattle.lx_reader.proofs.Imports.{Facts, first_facts, facts_after, entry_by_tokens, entry_of, entries, reading_from, reads_lines, count_read}
-use Rattle.lx_reader.proofs.Imports.{lines_read, onto, ReadingState, first_state, state_after, placed_in, facts_in, final_reading}
+use Rattle.lx_reader.proofs.Imports.{◌≡◌, ℕ, ◌+◌, ◌<◌, ◌≤◌, true, false, cond, List, [], ◌∷◌, ◌++◌, length, Result, Ok, Err, refl, ap, ◌∙◌, sym}
+use Rattle.lx_reader.proofs.Imports.{subst, arith, append_assoc, append-nil, length-append, nat_lt, IfSome, nat_tests, LINE_BYTES, Form, TextFault}
+use Rattle.lx_reader.proofs.Imports.{NoEndData, LineTooLong, desk_limits, tokens, ◌>>=◌, Entry, PlacedEntry, is_end, Facts, first_facts, facts_after}
+use Rattle.lx_reader.proofs.Imports.{entry_by_tokens, entry_of, entries, reading_from, reads_lines, count_read, lines_read, onto, ReadingState}
+use Rattle.lx_reader.proofs.Imports.{first_state, state_after, placed_in, facts_in, final_reading}
 use Rattle.lx_spec.specs.Reading.{Reading}
 use Rattle.lx_reader.proofs.SectionLevels.{onto_nothing, onto_again, onto_one}
 use Rattle.lx_reader.proofs.ReadingStates.{IsStateOf, state_none, state_more, state_facts, state_reading}

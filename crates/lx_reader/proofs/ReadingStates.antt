@@ -1,11 +1,11 @@
 -- The states of a reading: each comes to the last of its entries for each thing.
-use Rattle.lx_reader.proofs.Imports.{◌≡◌, ℕ, ◌+◌, ◌-◌, ◌≤◌, Bool, true, false, cond, List, [], ◌∷◌, ◌++◌, map, length, drop, Option, Some, None}
-use Rattle.lx_reader.proofs.Imports.{refl, ap, ◌∙◌, sym, subst, arith, ◌&&◌, ◌==◌, not, max, fold, flat_map, unwrap_or, count_by, position}
-use Rattle.lx_reader.proofs.Imports.{IfSome, option_map_or, after_last, suffix_len, prefix_len, reverse-append, drop-append-le, drop_all}
-use Rattle.lx_reader.proofs.Imports.{length-append, fold-append, count_by-le-length, DEFAULT_CHANNELS, Form, Show, by_form, NoRecord, Entry}
-use Rattle.lx_reader.proofs.Imports.{ClearsAll, PlacedEntry, channels_set, clears_all, is_skipped, section_begun, facts_after, reading_from}
-use Rattle.lx_reader.proofs.Imports.{channels_named, last_in, IsOpen, ReadingState, later, first_state, state_after, placed_in, facts_in}
-use Rattle.lx_reader.proofs.Imports.{final_reading, show_with, inl, inr, suc, eq_above, cases_Bool, position_from-zero, position_from, and_right}
+use Rattle.lx_reader.proofs.Imports.{◌≡◌, ℕ, ◌+◌, ◌-◌, ◌≤◌, Bool, true, false, cond, List, [], ◌∷◌, ◌++◌, map, length, drop, Option, Some, None, refl}
+use Rattle.lx_reader.proofs.Imports.{ap, ◌∙◌, sym, subst, arith, ◌&&◌, ◌==◌, not, max, fold, flat_map, unwrap_or, count_by, position, IfSome}
+use Rattle.lx_reader.proofs.Imports.{option_map_or, after_last, suffix_len, prefix_len, reverse-append, drop-append-le, drop_all, length-append}
+use Rattle.lx_reader.proofs.Imports.{fold-append, count_by-le-length, DEFAULT_CHANNELS, Form, Show, by_form, NoRecord, Entry, ClearsAll, PlacedEntry}
+use Rattle.lx_reader.proofs.Imports.{channels_set, clears_all, is_skipped, section_begun, facts_after, reading_from, channels_named, last_in, IsOpen}
+use Rattle.lx_reader.proofs.Imports.{ReadingState, later, first_state, state_after, placed_in, facts_in, final_reading, show_with, inl, inr, suc}
+use Rattle.lx_reader.proofs.Imports.{eq_above, cases_Bool, position_from-zero, position_from, and_right}
 use Rattle.lx_reader.proofs.LastEntries.{last_in-more}
 use Rattle.lx_reader.proofs.Shows.{show_so_far, show-more, greatest-from, IsRooted, IsBegun}
 use Rattle.lx_reader.proofs.NamedRecords.{begun_open, begun_next, begun_none, cues_next, cue_numbers, rooted-none, rooted-more}

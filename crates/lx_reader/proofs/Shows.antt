@@ -1,10 +1,9 @@
 -- The show of the entries, with one more.
-use Rattle.lx_reader.proofs.Imports.{◌≡◌, ℕ, Bool, true, false, cond, List, [], ◌∷◌, ◌++◌, map, Option, Some, None, refl, ap, ◌∙◌, append-nil}
-use Rattle.lx_reader.proofs.Imports.{arith, filter, fold, flat_map, filter_map, option_and_then, max, IfSome, cons_option, Show, placed}
-use Rattle.lx_reader.proofs.Imports.{has_entry, Section, NoRecord, Entry, Skipped, Identifies, Begins, ClearsAll, HasChannels, Patches}
-use Rattle.lx_reader.proofs.Imports.{PlacedEntry, cue_in, group_in, sub_in, rows_in, numbers_begun, stands_in, each_record, cue_from, group_from}
-use Rattle.lx_reader.proofs.Imports.{channels_named, show_from, new_cue, with_named, changed_in, cue_with, set_with, change_by, number_begun}
-use Rattle.lx_reader.proofs.Imports.{speaks, new_set, show_with, cond_both}
+use Rattle.lx_reader.proofs.Imports.{◌≡◌, ℕ, Bool, true, false, cond, List, [], ◌∷◌, ◌++◌, map, Option, Some, None, refl, ap, ◌∙◌, append-nil, arith}
+use Rattle.lx_reader.proofs.Imports.{filter, fold, flat_map, filter_map, option_and_then, max, IfSome, cons_option, Show, placed, has_entry, Section}
+use Rattle.lx_reader.proofs.Imports.{NoRecord, Entry, Skipped, Identifies, Begins, ClearsAll, HasChannels, Patches, PlacedEntry, cue_in, group_in}
+use Rattle.lx_reader.proofs.Imports.{sub_in, rows_in, numbers_begun, stands_in, each_record, cue_from, group_from, channels_named, show_from, new_cue}
+use Rattle.lx_reader.proofs.Imports.{with_named, changed_in, cue_with, set_with, change_by, number_begun, speaks, new_set, show_with, cond_both}
 use Rattle.lx_reader.proofs.LastEntries.{filter-more, fold_flat-more, fold_picked-more}
 use Rattle.lx_reader.proofs.PlacedNumbers.{IsStrictlySorted-numbers, is_at, after_change, listed-more}
 use Rattle.lx_reader.proofs.Cues.{HasPart, ArePartsRooted, cue_from-with, set_from-with}

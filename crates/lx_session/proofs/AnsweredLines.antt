@@ -1,14 +1,15 @@
 -- A line that was attempted and replied to was answered.
-use Rattle.lx_session.proofs.Imports.{◌≡◌, ◌≤◌, IsOk, IfSome, ℕ, Bool, true, false, Option, Some, None, Result, Ok, Err, OnOk, List, [], ◌++◌}
+use Rattle.lx_session.proofs.Imports.{◌≡◌, ◌≤◌, IsOk, IfSome, ℕ, Bool, true, false, Option, Some, None, Result, OnOk, List, [], ◌++◌}
 use Rattle.lx_session.proofs.Imports.{refl, sym, ap, ◌∙◌, subst, arith, is_some, SinkFault, Puts, Command, Line, Refusal, Desk, step, may_lack_memory}
 use Rattle.lx_session.proofs.Imports.{Kept, Session, Counts, DeskState, Attempt, command_of, count_of, tried, after_attempts}
 use Rattle.lx_session.proofs.Imports.{IsAcceptedEdit, MayFailAt, StandsFor, Tally, LineState, next_of, unattempted, LineProgress}
 use Rattle.lx_session.proofs.Imports.{CommandHasFailed, resumed, reply_to, reply_for, counts_after, counts_in, counted as counted_in, ListenedAttempt, heard_of}
-use Rattle.lx_session.proofs.Imports.{after_commands, SparedAnswer, ToldBySink, ◌≢◌, Memory, Answering, OneAnswer, spared}
+use Rattle.lx_session.proofs.Imports.{after_commands, SparedAnswer, ToldBySink, ◌≢◌, Puts-is, Memory, Answering, OneAnswer, spared}
 use Rattle.lx_spec.specs.declared.Command.TheVariants as commands
 use Rattle.lx_spec.specs.declared.Line.TheVariants as lines
 use Rattle.lx_script.specs.declared.reply.Reply.{Reply}
 use Rattle.lx_script.specs.ReplyTexts.{reply_text}
+use Rattle.std.proofs.lemmas.Result.{on_ok_weaker}
 use Rattle.lx_session.proofs.AttemptSteps.{attempted, nothing_yet}
 use Rattle.lx_session.proofs.Replies.{on_ok}
 use Rattle.lx_session.proofs.RepliedLines.{IsReplied, over, finished}
@@ -58,18 +59,6 @@ pub record TurnAnswer {K T : Type 0} (Ample : Type 0) (all : Bool) (heard : List
   pub puts : Puts told sink sink' result (reply_to now.desk meaning refusal)
   pub counts : OnOk result (counts_after now.desk counted meaning refusal ≡ counts_in tally)
 
--- what is counted, said otherwise
-counts_are : {T E : Type 0} (r : Result T E) (d : Desk) (own : Counts) (meaning meaning' : Option Line) (refusal : Option Refusal)
-    (before after : Counts) → meaning' ≡ meaning → own ≡ before → OnOk r (after ≡ counts_after d before meaning' refusal)
-    → OnOk r (counts_after d own meaning refusal ≡ after)
-counts_are (Ok x) d own meaning meaning' refusal before after same counted e =
-    ap (λ (c : Counts). counts_after d c meaning refusal) counted ∙ sym (e ∙ ap (λ (m : Option Line). counts_after d before m refusal) same)
-counts_are (Err x) d own meaning meaning' refusal before after same counted e = tt
-
-counted_so : {T E : Type 0} (r : Result T E) (next told after : Counts) → next ≡ told → OnOk r (told ≡ after) → OnOk r (next ≡ after)
-counted_so (Ok x) next told after is e = is ∙ e
-counted_so (Err x) next told after is e = tt
-
 -- The session with the reply: its state, text and counts.
 pub with_reply_is : {S Q : Type 0} (s : Session S) (meaning : Option Line) (t : Attempt) (state : Q)
     → IsReplied (record { state = state; text = s.text; counts = s.counts }) meaning t.state.desk t.refusal (after_attempts s meaning t state)
@@ -105,8 +94,8 @@ module _ {K T Ample : Type 0} {all : Bool} {heard : List Command → Type 0} {to
     listened = t.listened;
     stands = t.stands;
     puts = subst (λ m. Puts told sink sink' result (reply_to t.now.desk m turn.refusal)) t.meaning (puts t.now.desk t.stands);
-    counts = counts_are result t.now.desk own meaning turn.meaning turn.refusal (counts_in before) (counts_in after) t.meaning counted
-        (counts t.now.desk t.stands);
+    counts = on_ok_weaker result (λ (e : counts_in after ≡ counts_after t.now.desk (counts_in before) turn.meaning turn.refusal).
+        rw (counted, ← t.meaning) (sym e)) (counts t.now.desk t.stands);
   }
 
   -- the same, of a line of the desk's own session
@@ -135,8 +124,7 @@ module _ {K T Ample : Type 0} {all : Bool} {heard : List Command → Type 0} {to
           reply = reply_to a.now.desk meaning a.refusal;
           text = r.text;
           puts = a.puts;
-          counts = counted_so result (after_attempts s meaning now a.now).counts (counts_after a.now.desk s.counts meaning a.refusal)
-              (counts_in after) r.counts a.counts;
+          counts = on_ok_weaker result (λ (e : counts_after a.now.desk s.counts meaning a.refusal ≡ counts_in after). r.counts ∙ e) a.counts;
         };
         none = a.none;
       }
@@ -164,25 +152,16 @@ line_answered by ample {result} {s} {line} {meaning} {tally} Stands after a is m
       reply = reply_to a.now.desk meaning a.refusal;
       text = r.text;
       puts = a.puts;
-      counts = counted_so result (after_attempts s meaning now (after a.now)).counts (counts_after a.now.desk s.counts meaning a.refusal)
-          (counts_in tally) r.counts a.counts;
+      counts = on_ok_weaker result (λ (e : counts_after a.now.desk s.counts meaning a.refusal ≡ counts_in tally). r.counts ∙ e) a.counts;
     }
 
--- the reply to one command, and what it counts
-reply_is : (d : Desk) (command : Command) (refusal : Option Refusal)
-    → reply_text (reply_for refusal) ≡ reply_to d (Some (lines.Command command)) refusal
-reply_is d command None = refl
-reply_is d command (Some r) = refl
-
-counts_is : (d : Desk) (counts : Counts) (command : Command) (refusal : Option Refusal)
-    → counted_in (reply_for refusal) counts ≡ counts_after d counts (Some (lines.Command command)) refusal
-counts_is d counts command None = refl
-counts_is d counts command (Some r) = refl
-
-none_left : (meaning : Option Line) (refusal : Option Refusal)
-    → next_of (record { meaning = meaning; left = 0; refusal = refusal }) ≡ None
-none_left meaning None = refl
-none_left meaning (Some r) = refl
+-- the reply to one command, and what it counts; none is left
+one_is : (d : Desk) (counts : Counts) (command : Command) (refusal : Option Refusal)
+    → (reply_text (reply_for refusal) ≡ reply_to d (Some (lines.Command command)) refusal)
+    × (counted_in (reply_for refusal) counts ≡ counts_after d counts (Some (lines.Command command)) refusal)
+    × (next_of (record { meaning = Some (lines.Command command); left = 0; refusal = refusal }) ≡ None)
+one_is d counts command None = (refl, refl, refl)
+one_is d counts command (Some r) = (refl, refl, refl)
 
 -- A line of one command, which was attempted and replied to.
 pub one_command : {K T Ample : Type 0} {all : Bool} {heard : List Command → Type 0} {told : ToldBySink K} {sink sink' : K}
@@ -191,10 +170,10 @@ pub one_command : {K T Ample : Type 0} {all : Bool} {heard : List Command → Ty
     → ((d : Desk) → StandsFor d before_it → ListenedAttempt all d command refusal after_it) → heard (heard_of command refusal)
     → reply ≡ reply_for refusal → Puts told sink sink' result (reply_text reply) → counts_in after ≡ counted_in reply (counts_in before)
     → SparedAnswer Ample all heard told sink sink' result s (Some (lines.Command command)) after_it after
-one_command {all} {heard} {told} {sink} {sink'} {result} {command} {refusal} {before} other stands counted attempt h is puts counts =
+one_command {all} {heard} {s = s} {command} {refusal} {before} other stands counted attempt h is puts counts =
     let turn : LineState = record { meaning = Some (lines.Command command); left = 0; refusal = refusal } in
+    let one = λ (d : Desk). one_is d (counts_in before) command refusal in
     answered {turn = turn} other
     (attempted {all = all} {heard = λ done. done ≡ []} (nothing_yet stands refl refl) refl attempt
-    (λ done none. subst (λ first. heard (first ++ heard_of command refusal)) (sym none) h) refl) (none_left (Some (lines.Command command)) refusal)
-    counted (λ d here. subst (Puts told sink sink' result) (ap reply_text is ∙ reply_is d command refusal) puts)
-    (λ d here. on_ok result _ (counts ∙ ap (λ r. counted_in r (counts_in before)) is ∙ counts_is d (counts_in before) command refusal))
+    (λ done none. rw none h) refl) (one s.state.desk).2 counted (λ d here. Puts-is puts (ap reply_text is ∙ (one d).0))
+    (λ d here. on_ok _ _ (counts ∙ ap (λ r. counted_in r (counts_in before)) is ∙ (one d).1))

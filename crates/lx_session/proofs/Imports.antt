@@ -19,7 +19,7 @@ pub use Rattle.lx_lex.specs.declared.lines.Lines.{Lines}
 pub use Rattle.lx_session.specs.Attempts.{AcceptedStep, after_commands, Attempted, heard_of, ListenedAttempt}
 pub use Rattle.lx_session.specs.Known.{AppendsAtLeast, Known}
 pub use Rattle.lx_session.specs.LineAnswer.{LineAnswer, SparedAnswer}
-pub use Rattle.lx_session.specs.LineOutcome.{AnsweredLine, DoneLine, FromSession, HalfAnsweredLine, LineOutcome, PassedLine, QuitLine, ReplyOutcome}
+pub use Rattle.lx_session.specs.LineOutcome.{AnsweredLine, DoneLine, FromSession, HalfAnsweredLine, LineOutcome, PassedLine, QuitLine}
 pub use Rattle.lx_session.specs.LineOutcome.{ReplyPrefix, ScriptEnd, SinkStop, UnreadLine, Untouched, WholeReply}
 pub use Rattle.lx_session.specs.LineProgress.{CommandHasFailed, HasPassed, LineProgress, resumed}
 pub use Rattle.lx_session.specs.LineReply.{counted, counts_after, counts_in, IsUpTo, reply_for, reply_to, stateless}

@@ -8,7 +8,7 @@ pub mod Commands
 pub mod AnsweredLines
 pub mod EachLine
 pub mod HeardLines
-pub mod ReplyOutcomes
+pub mod Fronts
 pub mod LineOutcomes
 pub mod SoFar
 pub mod ScriptEnds

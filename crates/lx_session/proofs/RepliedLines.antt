@@ -1,8 +1,8 @@
 -- What a line's reply makes of a session.
-use Rattle.lx_session.proofs.Imports.{◌≡◌, ℕ, zero, suc, Bool, true, false, cond, ◌==◌, Option, Some, None, ◌++◌, refl}
-use Rattle.lx_session.proofs.Imports.{sym, ap, append-nil, ◌∙◌, arith, is_some, if◌then◌else◌, nat_tests, Command, Line, Refusal, AbsentCue, cue_of, Desk}
-use Rattle.lx_session.proofs.Imports.{row_text, row_of, refused_text, Session, refused_reply, with_text, DeskState, command_of, attempts_for}
-use Rattle.lx_session.proofs.Imports.{with_reply, LineState, next_of, resumed, stateless, reply_to, counts_after}
+use Rattle.lx_session.proofs.Imports.{◌≡◌, inl, inr, ℕ, zero, suc, false, cond, ◌==◌, Option, Some, None, ◌++◌, refl, sym, ap, append-nil, ◌∙◌}
+use Rattle.lx_session.proofs.Imports.{arith, is_some, nat_tests, Command, Line, Refusal, cue_of, Desk, Session, DeskState, command_of, attempts_for}
+use Rattle.lx_session.proofs.Imports.{with_reply, LineState, next_of, resumed, reply_to, counts_after}
+use Rattle.std.proofs.lemmas.Bool.{cases_Bool}
 use Rattle.lx_spec.specs.declared.Line.TheVariants as lines
 
 -- where there is nothing more to attempt
@@ -29,26 +29,12 @@ pub record IsReplied {S : Type 0} (s : Session S) (meaning : Option Line) (d : D
   pub text : next.text ≡ s.text ++ reply_to d meaning refusal
   pub counts : next.counts ≡ counts_after d s.counts meaning refusal
 
--- a row line, or that there is no such cue
-abbrev pub row_or_not : {S : Type 0} → Session S → Desk → ℕ → Bool → Session S
-row_or_not s d n b = if b then with_text s (row_text n (row_of d.show n)) else refused_reply s (refused_text (AbsentCue n))
-
-sheet : {S : Type 0} (s : Session S) (d : Desk) (n : ℕ) (refusal : Option Refusal) (b : Bool) → is_some (cue_of d.show n) ≡ b
-    → IsReplied s (Some (lines.SheetOf n)) d refusal (row_or_not s d n b)
-sheet s d n refusal true is = record {
-  state = refl;
-  text = ap (λ b. s.text ++ (row_or_not (stateless (record { ok = 0; refused = 0; bad = 0 })) d n b).text) (sym is);
-  counts = ap (λ b. (row_or_not (stateless s.counts) d n b).counts) (sym is);
-}
-sheet s d n refusal false is = record {
-  state = refl;
-  text = ap (λ b. s.text ++ (row_or_not (stateless (record { ok = 0; refused = 0; bad = 0 })) d n b).text) (sym is);
-  counts = ap (λ b. (row_or_not (stateless s.counts) d n b).counts) (sym is);
-}
-
 pub finished : {S : Type 0} (s : Session S) (meaning : Option Line) (d : Desk) (refusal : Option Refusal)
     → IsReplied s meaning d refusal (with_reply s meaning d refusal)
-finished s (Some (lines.SheetOf n)) d refusal = sheet s d n refusal (is_some (cue_of d.show n)) refl
+finished s (Some (lines.SheetOf n)) d refusal = elim (cases_Bool (is_some (cue_of d.show n))) [
+  | inl there ↦ rw there (record { state = refl; text = rw (there, reply_to) refl; counts = rw (there, counts_after) refl })
+  | inr absent ↦ rw absent (record { state = refl; text = rw (absent, reply_to) refl; counts = rw (absent, counts_after) refl })
+]
 finished s (Some lines.Quit) d refusal = record { state = refl; text = sym (append-nil s.text); counts = refl }
 finished s (Some lines.Blank) d refusal = record { state = refl; text = sym (append-nil s.text); counts = refl }
 finished s other d None = record { state = refl; text = refl; counts = refl }

@@ -1,17 +1,20 @@
 -- How a session ends.
 use Rattle.lx_session.proofs.Imports.{◌≡◌, ◌⊎◌, inl, inr, ℕ, true, Result, Ok, Err, Option, Some, None, IfSome, List, []}
 use Rattle.lx_session.proofs.Imports.{◌∷◌, ◌++◌, map, length, take, drop, take-append-drop, take_all, sym, ap, ◌∙◌, subst, append-nil}
-use Rattle.lx_session.proofs.Imports.{append_assoc, length-append, arith, position_or_len, before_first, Appends, IsAtEnd, Appends-trans}
-use Rattle.lx_session.proofs.Imports.{Appends-kept, map-append, length-map, AppendsFront, AppendsFront-is, AppendsFront-from, Lines, unread, NotTaken}
+use Rattle.lx_session.proofs.Imports.{length-append, arith, position_or_len, before_first, Appends, IsAtEnd}
+use Rattle.lx_session.proofs.Imports.{Appends-kept, map-append, length-map, AppendsFront, Lines, unread, NotTaken}
 use Rattle.lx_session.proofs.Imports.{LinesBetween, handed_then, all_texts, without_cr, lines_of, first_lines, Session, Answering, begin_at, after_each}
-use Rattle.lx_session.proofs.Imports.{AreAllowed, ends_script, answered_lines, whole_session, session_after, Allows, Tally, Known, QuitLine, HalfAnsweredLine}
+use Rattle.lx_session.proofs.Imports.{ends_script, answered_lines, whole_session, session_after, Allows, Tally, Known, QuitLine, HalfAnsweredLine}
 use Rattle.lx_session.proofs.Imports.{Untouched, ScriptEnd, SinkStop, LineOutcome, counts_in, IsLawful, AnsweredWhole, AnsweredPrefix, AnsweredTaken}
 use Rattle.lx_session.proofs.Imports.{ScriptAnswered, KeepsLimit, SessionFault, ToldBySource, AppendsAtLeast, ◌-◌, ◌≤◌}
-use Rattle.std.proofs.Math.Seq.{take-append_seam, take-append-add, take-append-le}
+use Rattle.std.proofs.Math.Seq.{take-append-add, take-append-le}
+use Rattle.std.proofs.lemmas.List.{take_at}
 use Rattle.lx_lex.proofs.CuttingOff.{cut_off}
 use Rattle.lx_session.specs.declared.fault.SessionFault.TheVariants.{ReadFault, WriteFault, InputTooLong, Memory}
 use Rattle.lx_session.proofs.EachLine.{more_text, allowed_further}
-use Rattle.lx_session.proofs.SoFar.{GoOn, Done, SoFar, Passed, before_last, done_more, over, with_both}
+use Rattle.std.proofs.lemmas.Option.{IfSome_then}
+use Rattle.lx_session.proofs.Fronts.{front_of, front_whole, front_more, front_then, at_least_then}
+use Rattle.lx_session.proofs.SoFar.{GoOn, Done, SoFar, Passed, before_last, done_more, with_both}
 use Rattle.lx_session.proofs.SoFar.{begins, begins_more, ends_after, ends_here, too_long}
 
 -- what the lines before the end are
@@ -28,8 +31,7 @@ before_quit : (xs : List (List ℕ)) (l : List ℕ) (more : List (List ℕ)) →
 before_quit xs l more all e = before_end xs (l ∷ more) all ∙ ap (λ n. xs ++ take n (l ∷ more)) (ends_here l more e) ∙ append-nil xs
 
 take_raws : (raws rest : List (List ℕ)) → take (length raws) (map without_cr raws ++ rest) ≡ map without_cr raws
-take_raws raws rest = ap (λ n. take n (map without_cr raws ++ rest)) (sym (length-map raws without_cr))
-    ∙ take-append_seam (map without_cr raws) rest
+take_raws raws rest = take_at (map without_cr raws) rest (length raws) (length-map raws without_cr)
 
 -- the bytes that were taken are those of the lines
 handed_all : {a c : Option (List ℕ)} {i k : ℕ} {raws : List (List ℕ)} → LinesBetween a c i k raws
@@ -46,18 +48,6 @@ handed_still {a = Some x} {b = Some y} None p same = tt
 handed_still {a = Some x} {b = Some y} {raws = raws} (Some z) p same = p.took ∙ ap (λ v. v ++ y) p.front
     ∙ ap (λ v. first_lines (length raws) x ++ v) same
 
--- a front of a text was appended, where the text begins so
-pub front_of : (a b : Option (List ℕ)) (front rest text : List ℕ) → text ≡ front ++ rest → Appends a b front → AppendsFront a b text
-front_of a b front rest text is p = AppendsFront-from a b text (length front)
-    (subst (λ (v : List ℕ). Appends a b v) (sym (ap (take (length front)) is ∙ take-append_seam front rest)) p)
-
--- a front of a text is one of a longer text
-pub front_more : (a b : Option (List ℕ)) (text more whole : List ℕ) → whole ≡ text ++ more → AppendsFront a b text → AppendsFront a b whole
-front_more a b text more whole is p =
-    let part = AppendsFront-is a b text p in
-    front_of a b (take part.0 text) (drop part.0 text ++ more) whole
-    (is ∙ ap (λ v. v ++ more) (sym (take-append-drop part.0 text)) ∙ append_assoc (take part.0 text) (drop part.0 text) more) part.1
-
 -- the text of all lines but the last, where other lines stand behind them
 but_last : (by : Answering (List ℕ)) (state : by.State) (raws rest : List (List ℕ)) (failures : List (Option ℕ)) (h h' : Known)
     → AppendsAtLeast h h' (after_each by failures (begin_at state) (take (length (map without_cr raws) - 1) (map without_cr raws))).text
@@ -70,50 +60,38 @@ but_last by state raws rest failures h h' p =
     subst (λ ls. AppendsAtLeast h h' (after_each by failures (begin_at state) ls).text)
     (ap (λ n. take (n - 1) lines) count ∙ sym first) p
 
--- These lines were done, and `rest` would be answered behind them.
+-- These lines were done.
 module _ {by : Answering (List ℕ)} {state : by.State} {lines : List (List ℕ)} {failures : List (Option ℕ)} {now : Session by.State}
     (done : Done by state lines failures now) where
-  -- the session of the first lines of a script
-  session_after_is : (script rest : List (List ℕ)) (n : ℕ) → answered_lines script ≡ lines ++ rest → take n (lines ++ rest) ≡ lines
-      → session_after by state script failures n ≡ now
-  session_after_is script rest n is first =
-      ap (λ ls. after_each by failures (begin_at state) ls) (ap (take n) is ∙ first) ∙ done.is
-
-  -- attempts failed only where they may, and none of later lines
-  allows_all : (script rest : List (List ℕ)) → answered_lines script ≡ lines ++ rest → Allows by state script failures
-  allows_all script rest is = subst (λ ls. AreAllowed by failures (begin_at state) ls) (sym is)
-      (allowed_further by failures (begin_at state) lines rest done.each done.allowed)
-
   -- the whole script was answered
   answers_all : {Stands : by.State → Type 0} {script : List (List ℕ)} {h h' : Known} {tally : Tally} → answered_lines script ≡ lines
       → Appends h h' now.text → Stands now.state → now.counts ≡ counts_in tally → AnsweredWhole by Stands state script h h' tally
-  answers_all {Stands} {script} {h} {h'} is appended stands counts =
-      let same : whole_session by state script failures ≡ now = ap (after_each by failures (begin_at state)) is ∙ done.is in
-      record {
-        failures = failures;
-        allows = subst (λ ls. AreAllowed by failures (begin_at state) ls) (sym is) done.allowed;
-        text = subst (λ (s : Session by.State). Appends h h' s.text) (sym same) appended;
-        counts = sym (ap (λ s. s.counts) same ∙ counts);
-        stands = subst (λ (s : Session by.State). Stands s.state) (sym same) stands;
-      }
+  answers_all is appended stands counts = record {
+    failures = failures;
+    allows = rw is done.allowed;
+    text = rw (is, done.is) appended;
+    counts = rw (is, done.is) (sym counts);
+    stands = rw (is, done.is) stands;
+  }
+
+  -- `rest` would be answered behind them: attempts failed only where they may, and none of later lines
+  allows_all : (script rest : List (List ℕ)) → answered_lines script ≡ lines ++ rest → Allows by state script failures
+  allows_all script rest is = rw is (allowed_further by failures (begin_at state) lines rest done.each done.allowed)
 
   -- the sink failed
-  answers_front : {Stands : by.State → Type 0} {xs : List ℕ} {o h h' : Known} (rest : List (List ℕ)) (n : ℕ) (written more : List ℕ)
+  answers_front : {Stands : by.State → Type 0} {xs : List ℕ} {o h h' : Known} (rest : List (List ℕ)) (n : ℕ)
       → answered_lines (lines_of xs) ≡ lines ++ rest → take n (lines ++ rest) ≡ lines → IfSome o (λ ys. xs ≡ first_lines n xs ++ ys)
-      → now.text ≡ written ++ more → Appends h h' written
-      → AppendsAtLeast h h' (after_each by failures (begin_at state) (take (n - 1) (lines ++ rest))).text → Stands now.state
-      → AnsweredPrefix by Stands state xs o h h'
-  answers_front {Stands} {xs} {h} {h'} rest n written more is first handed text appended earlier stands =
-      let same = session_after_is (lines_of xs) rest n is first in
-      record {
-        failures = failures;
-        allows = allows_all (lines_of xs) rest is;
-        lines = n;
-        handed = handed;
-        text = front_of h h' written more (session_after by state (lines_of xs) failures n).text (ap (λ s. s.text) same ∙ text) appended;
-        earlier = subst (λ ls. AppendsAtLeast h h' (after_each by failures (begin_at state) (take (n - 1) ls)).text) (sym is) earlier;
-        stands = subst (λ (s : Session by.State). Stands s.state) (sym same) stands;
-      }
+      → AppendsFront h h' now.text → AppendsAtLeast h h' (after_each by failures (begin_at state) (take (n - 1) (lines ++ rest))).text
+      → Stands now.state → AnsweredPrefix by Stands state xs o h h'
+  answers_front {xs = xs} rest n is first handed text earlier stands = record {
+    failures = failures;
+    allows = allows_all (lines_of xs) rest is;
+    lines = n;
+    handed = handed;
+    text = rw (is, first, done.is) text;
+    earlier = rw is earlier;
+    stands = rw (is, first, done.is) stands;
+  }
 
 -- A session has come so far, and then what answers stands for a state in this sense, the lines are these, and this was written.
 module _ {S : Type 0} {by : Answering (List ℕ)} {Stood : by.State → Type 0} {told : ToldBySource S} {a b : Lines S} {state : by.State}
@@ -128,27 +106,33 @@ module _ {S : Type 0} {by : Answering (List ℕ)} {Stood : by.State → Type 0} 
       let appended = Appends-kept h h' h'' s.now.text s.appended e.same.kept in
       elim how [
         | inl end ↦
-            over (unread told a) (λ xs. lines_of xs ≡ lines) _ (all_texts (unread told a) (unread told b) a.taken b.taken s.raws s.handed.took end)
+            IfSome_then (unread told a) (all_texts (unread told a) (unread told b) a.taken b.taken s.raws s.handed.took end)
             (λ xs is. answers_all s.done (ap (before_first ends_script) is ∙ before_all lines s.done.go_on) appended e.same.stands e.counts)
         | inr q ↦
-            over (unread told a) _ _ (begins_more s.raws q.raw (handed_then told a b c s.raws (q.raw ∷ []) s.handed q.handed).took)
+            IfSome_then (unread told a) (begins_more s.raws q.raw (handed_then told a b c s.raws (q.raw ∷ []) s.handed q.handed).took)
             (λ xs is. answers_all s.done
             (ap (before_first ends_script) is.1 ∙ before_quit lines (without_cr q.raw) is.0 s.done.go_on q.quits) appended e.same.stands e.counts)
       ]
 
-  -- The sink failed, between two lines,
+  -- The sink failed: a front was written of what answers these lines, and the whole of what answers all but the last of them,
+  front_written : (raws : List (List ℕ)) {failures : List (Option ℕ)} {now : Session by.State} → Done by state (map without_cr raws) failures now
+      → IfSome (unread told a) (λ xs. (rest : List (List ℕ)) × (lines_of xs ≡ map without_cr raws ++ rest))
+      → IfSome (unread told a) (λ xs. IfSome (unread told c) (λ zs. xs ≡ first_lines (length raws) xs ++ zs)) → AppendsFront h h'' now.text
+      → AppendsAtLeast h h'' (after_each by failures (begin_at state) (take (length (map without_cr raws) - 1) (map without_cr raws))).text
+      → Stands now.state → IfSome (unread told a) (λ bytes. AnsweredPrefix by Stands state bytes (unread told c) h h'')
+  front_written raws {failures} done begun handed text earlier stands =
+      with_both (unread told a) _ _ _ begun handed (λ xs is handed.
+      let rest = before_first ends_script is.0 in
+      answers_front done rest (length raws) (ap (before_first ends_script) is.1 ∙ before_end (map without_cr raws) is.0 done.go_on)
+      (take_raws raws rest) handed text (but_last by state raws rest failures h h'' earlier) stands)
+
+  -- between two lines,
   stops : Untouched Stands h' h'' s.now → IfSome (unread told b) (λ xs. IfSome (unread told c) (λ ys. xs ≡ ys))
       → IfSome (unread told a) (λ bytes. AnsweredPrefix by Stands state bytes (unread told c) h h'')
   stops u same =
       let appended = Appends-kept h h' h'' s.now.text s.appended u.kept in
-      let first = s.done.earlier in
-      with_both (unread told a) _ _ _ (begins s.handed.took)
-      (handed_still (unread told c) s.handed.took same) (λ xs is handed.
-      let rest = before_first ends_script is.0 in
-      answers_front s.done rest (length s.raws) s.now.text []
-      (ap (before_first ends_script) is.1 ∙ before_end lines is.0 s.done.go_on) (take_raws s.raws rest)
-      handed (sym (append-nil s.now.text)) appended
-      (but_last by state s.raws rest s.failures h h'' (first.more, subst (λ (v : List ℕ). Appends h h'' v) first.text appended)) u.stands)
+      front_written s.raws s.done (begins s.handed.took) (handed_still (unread told c) s.handed.took same) (front_whole h h'' s.now.text appended)
+      (s.done.earlier.more, subst (λ (v : List ℕ). Appends h h'' v) s.done.earlier.text appended) u.stands
 
   -- after the line that ends the script,
   stops_at_quit : Untouched Stands h' h'' s.now → QuitLine told b c
@@ -157,43 +141,27 @@ module _ {S : Type 0} {by : Answering (List ℕ)} {Stood : by.State → Type 0} 
       let n = length (s.raws ++ q.raw ∷ []) in
       let appended = Appends-kept h h' h'' s.now.text s.appended u.kept in
       let both = handed_then told a b c s.raws (q.raw ∷ []) s.handed q.handed in
-      let most : length (lines ++ []) ≤ n - 1 =
-      omega (arith, length-append s.raws (q.raw ∷ []), length-map s.raws without_cr, ap length (append-nil lines)) in
-      let all = ap (λ ls. after_each by s.failures (begin_at state) ls) (take_all (n - 1) (lines ++ []) most ∙ append-nil lines) ∙ s.done.is in
+      let most : length lines ≤ n - 1 = omega (arith, length-append s.raws (q.raw ∷ []), length-map s.raws without_cr) in
       with_both (unread told a) _ _ _ (begins_more s.raws q.raw both.took)
       (handed_all both.took) (λ xs is handed.
-      answers_front s.done [] n s.now.text []
-      (ap (before_first ends_script) is.1 ∙ before_quit lines (without_cr q.raw) is.0 s.done.go_on q.quits ∙ sym (append-nil lines))
-      (take_all n (lines ++ []) (omega (arith, most)) ∙ append-nil lines) handed (sym (append-nil s.now.text)) appended
-      ([], subst (λ (v : List ℕ). Appends h h'' v) (ap (λ (t : Session by.State). t.text) (sym all) ∙ sym (append-nil _)) appended) u.stands)
+      answers_front s.done [] n (ap (before_first ends_script) is.1 ∙ before_quit lines (without_cr q.raw) is.0 s.done.go_on q.quits
+      ∙ sym (append-nil lines)) (ap (take n) (append-nil lines) ∙ take_all n lines (omega (arith, most))) handed
+      (front_whole h h'' s.now.text appended)
+      ([], rw (append-nil lines, take_all (n - 1) lines most, s.done.is, append-nil s.now.text) appended) u.stands)
 
   -- or within a reply.
   stops_in_reply : HalfAnsweredLine by Stands told b c h' h'' s.now
       → IfSome (unread told a) (λ bytes. AnsweredPrefix by Stands state bytes (unread told c) h h'')
   stops_in_reply t =
       let w = t.part.done in
-      let raws = s.raws ++ t.raw ∷ [] in
-      let failures = s.failures ++ w.failed ∷ [] in
       let both = handed_then told a b c s.raws (t.raw ∷ []) s.handed t.handed in
-      let reply = t.part.reply in
-      let part = AppendsFront-is h' h'' reply t.part.front in
-      let front = take part.0 reply in
-      let rest = drop part.0 reply in
-      let lines_are : map without_cr raws ≡ lines ++ without_cr t.raw ∷ [] = map-append without_cr s.raws (t.raw ∷ []) in
-      let done : Done by state (map without_cr raws) failures w.next =
-      subst (λ ls. Done by state ls failures w.next) (sym lines_are) (done_more s.done w) in
-      let before : after_each by failures (begin_at state) (take (length (map without_cr raws) - 1) (map without_cr raws)) ≡ s.now =
-      ap (λ ls. after_each by failures (begin_at state) (take (length ls - 1) ls)) lines_are ∙ before_last (without_cr t.raw) w.failed s.done in
-      let appended = Appends-trans h h' h'' s.now.text front s.appended part.1 in
-      with_both (unread told a) _ _ _ (begins both.took)
-      (handed_all both.took) (λ xs is handed.
-      let others = before_first ends_script is.0 in
-      answers_front done others (length raws) (s.now.text ++ front) rest
-      (ap (before_first ends_script) is.1 ∙ before_end (map without_cr raws) is.0 done.go_on) (take_raws raws others) handed
-      (w.text ∙ ap (λ v. s.now.text ++ v) (sym (take-append-drop part.0 reply)) ∙ sym (append_assoc s.now.text front rest))
-      appended
-      (but_last by state raws others failures h h''
-      (subst (λ (v : Session by.State). AppendsAtLeast h h'' v.text) (sym before) (front, appended))) w.stands)
+      let lines_are : map without_cr (s.raws ++ t.raw ∷ []) ≡ lines ++ without_cr t.raw ∷ [] = map-append without_cr s.raws (t.raw ∷ []) in
+      let done : Done by state (map without_cr (s.raws ++ t.raw ∷ [])) (s.failures ++ w.failed ∷ []) w.next =
+      rw lines_are (done_more s.done w) in
+      front_written (s.raws ++ t.raw ∷ []) done (begins both.took) (handed_all both.took)
+      (rw w.text (front_then h h' h'' s.now.text t.part.reply s.appended t.part.front))
+      (rw (lines_are, before_last (without_cr t.raw) w.failed s.done)
+      (at_least_then h h' h'' s.now.text t.part.reply s.appended t.part.front)) w.stands
 
   so_far_stops : SinkStop by Stands told b c h' h'' s.now
       → IfSome (unread told a) (λ bytes. AnsweredPrefix by Stands state bytes (unread told c) h h'')
@@ -213,9 +181,6 @@ module _ {S : Type 0} {by : Answering (List ℕ)} {Stood : by.State → Type 0} 
       (cut_off told a b c s.raws s.handed.took n) (λ xs is cut.
       let rest = before_first ends_script is.0 in
       let before : answered_lines (lines_of xs) ≡ lines ++ rest = ap answered_lines is.1 ∙ before_end lines is.0 s.done.go_on in
-      let now : session_after by state (lines_of xs) s.failures cut.0.lines ≡ s.now =
-      ap (session_after by state (lines_of xs) s.failures) cut.1
-      ∙ session_after_is s.done (lines_of xs) rest (length s.raws) before (take_raws s.raws rest) in
       record {
         failures = s.failures;
         allows = allows_all s.done (lines_of xs) rest before;
@@ -223,8 +188,8 @@ module _ {S : Type 0} {by : Answering (List ℕ)} {Stood : by.State → Type 0} 
         short =
             let at = ap (position_or_len ends_script) is.1 in
             omega (arith, at, ends_after lines is.0 s.done.go_on, cut.1, length-map s.raws without_cr);
-        text = subst (λ (v : Session by.State). Appends h h'' v.text) (sym now) (Appends-kept h h' h'' s.now.text s.appended u.kept);
-        stands = subst (λ (v : Session by.State). Stands v.state) (sym now) u.stands;
+        text = rw (cut.1, before, take_raws s.raws rest, s.done.is) (Appends-kept h h' h'' s.now.text s.appended u.kept);
+        stands = rw (cut.1, before, take_raws s.raws rest, s.done.is) u.stands;
       })
 
 -- The session ended by a fault.

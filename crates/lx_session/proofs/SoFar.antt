@@ -6,10 +6,11 @@ use Rattle.lx_session.proofs.Imports.{map-append, length-map, INPUT_BYTES, Lines
 use Rattle.lx_session.proofs.Imports.{StepOf, texts, lines_within, next_too_long, without_cr, lines_of, first_lines, Session, Answering, begin_at, after_each}
 use Rattle.lx_session.proofs.Imports.{AreAllowed, ends_script, lines_wanted, bytes_wanted, Tally, Known, DoneLine, PassedLine, QuitLine, AnsweredLine}
 use Rattle.lx_session.proofs.Imports.{counts_in, ToldBySource, ◌-◌, take, ExtendsText}
-use Rattle.std.proofs.Math.Seq.{take-append_seam}
+use Rattle.std.proofs.lemmas.Option.{IfSome_then}
+use Rattle.lx_spec.proofs.Lists.{all_append}
 use Rattle.lx_lex.specs.declared.lines.Step.TheVariants.{InputTooLong}
 use Rattle.lx_lex.proofs.FirstLines.{first_lines-longer}
-use Rattle.lx_session.proofs.EachLine.{each-append, allowed-append}
+use Rattle.lx_session.proofs.EachLine.{each-append, each-before, allowed-append}
 
 -- no line ends the script
 abbrev pub GoOn : List (List ℕ) → Type 0
@@ -27,19 +28,12 @@ pub record Done (by : Answering (List ℕ)) (state : by.State) (script : List (L
 done_none : {by : Answering (List ℕ)} {state : by.State} → Done by state [] [] (begin_at state)
 done_none = record { go_on = tt; each = refl; is = refl; allowed = tt; earlier = record { more = []; text = refl } }
 
-pub go_on_append : (xs : List (List ℕ)) (l : List ℕ) → GoOn xs → ends_script l ≡ false → GoOn (xs ++ l ∷ [])
-go_on_append [] l all more = (more, tt)
-go_on_append (x ∷ xs) l all more = (all.0, go_on_append xs l all.1 more)
-
 -- before one more line the session had come this far
 pub before_last : {by : Answering (List ℕ)} {state : by.State} {script : List (List ℕ)} {failures : List (Option ℕ)} {now : Session by.State}
     (line : List ℕ) (failed : Option ℕ) → Done by state script failures now
     → after_each by (failures ++ failed ∷ []) (begin_at state) (take (length (script ++ line ∷ []) - 1) (script ++ line ∷ [])) ≡ now
 before_last {by} {state} {script} {failures} line failed done =
-    let count : length (script ++ line ∷ []) - 1 ≡ length script = omega (arith, length-append script (line ∷ [])) in
-    ap (λ ls. after_each by (failures ++ failed ∷ []) (begin_at state) ls)
-    (ap (λ n. take n (script ++ line ∷ [])) count ∙ take-append_seam script (line ∷ []) ∙ sym (append-nil script))
-    ∙ each-append by failures (failed ∷ []) (begin_at state) script [] done.each ∙ done.is
+    each-before by failures (failed ∷ []) (begin_at state) script line done.each ∙ done.is
 
 -- one more line
 pub done_more : {by : Answering (List ℕ)} {Stands : by.State → Type 0} {state : by.State} {script : List (List ℕ)}
@@ -48,7 +42,7 @@ pub done_more : {by : Answering (List ℕ)} {Stands : by.State → Type 0} {stat
 done_more {by} {state} {script} {failures} {line} {reply} done w =
     let one = w.failed ∷ [] in
     record {
-      go_on = go_on_append script line done.go_on w.more;
+      go_on = all_append (λ l. ends_script l ≡ false) script (line ∷ []) done.go_on (w.more, tt);
       each = omega (arith, done.each, length-append failures one, length-append script (line ∷ []));
       is = each-append by failures one (begin_at state) script (line ∷ []) done.each
           ∙ ap (λ s. by.answer w.failed s line) done.is ∙ w.goes_on.is;
@@ -97,11 +91,9 @@ so_far_more {by} {told} {a} {b} {c} {state} {h} {h'} {h''} s t =
       handed = handed_then told a b c s.raws (t.raw ∷ []) s.handed t.handed;
       failures = s.failures ++ w.failed ∷ [];
       now = w.next;
-      done = subst (λ ls. Done by state ls (s.failures ++ w.failed ∷ []) w.next) (sym (map-append without_cr s.raws (t.raw ∷ [])))
-          (done_more s.done w);
+      done = rw (map-append without_cr s.raws (t.raw ∷ [])) (done_more s.done w);
       stands = w.stands;
-      appended = subst (λ (x : List ℕ). Appends h h'' x) (sym w.text)
-          (Appends-trans h h' h'' s.now.text t.whole.reply s.appended t.whole.appended);
+      appended = rw w.text (Appends-trans h h' h'' s.now.text t.whole.reply s.appended t.whole.appended);
       counts = t.whole.counts;
     }
 
@@ -118,8 +110,8 @@ pub passed_more : {S : Type 0} {told : ToldBySource S} {a b c : Lines S} → Pas
 passed_more {told} {a} {b} {c} p one = record {
   raws = p.raws ++ one.raw ∷ [];
   handed = handed_then told a b c p.raws (one.raw ∷ []) p.handed one.handed;
-  go_on = subst GoOn (sym (map-append without_cr p.raws (one.raw ∷ [])))
-      (go_on_append (map without_cr p.raws) (without_cr one.raw) p.go_on one.more);
+  go_on = rw (map-append without_cr p.raws (one.raw ∷ []))
+      (all_append (λ l. ends_script l ≡ false) (map without_cr p.raws) (without_cr one.raw ∷ []) p.go_on (one.more, tt));
 }
 
 -- where the script ends
@@ -134,11 +126,7 @@ ends_after (x ∷ xs) more all =
 pub ends_here : (l : List ℕ) (more : List (List ℕ)) → ends_script l ≡ true → position_or_len ends_script (l ∷ more) ≡ 0
 ends_here l more e = ap (λ b. cond (not b) (1 + position_or_len ends_script more) 0) e
 
--- a fact of all known bytes from one that is known, or two
-pub over : (o : Option (List ℕ)) (P Q : List ℕ → Type 0) → IfSome o P → ((xs : List ℕ) → P xs → Q xs) → IfSome o Q
-over None P Q p f = tt
-over (Some xs) P Q p f = f xs p
-
+-- a fact of all known bytes from two that are known
 pub with_both : (o : Option (List ℕ)) (P Q R : List ℕ → Type 0) → IfSome o P → IfSome o Q → ((xs : List ℕ) → P xs → Q xs → R xs)
     → IfSome o R
 with_both None P Q R p q f = tt
@@ -155,12 +143,8 @@ begins {a = Some x} {b = Some y} {i = i} {j = j} {raws = raws} p = (lines_of y, 
 pub begins_more : {a b : Option (List ℕ)} {i j : ℕ} (raws : List (List ℕ)) (raw : List ℕ) → LinesBetween a b i j (raws ++ raw ∷ [])
     → IfSome a (λ xs. (rest : List (List ℕ)) × (lines_of xs ≡ map without_cr raws ++ without_cr raw ∷ rest))
 begins_more {a} raws raw p =
-    over a _ _ (begins p)
-    (λ xs e. (
-      e.0,
-      e.1 ∙ ap (λ v. v ++ e.0) (map-append without_cr raws (raw ∷ []))
-          ∙ append_assoc (map without_cr raws) (without_cr raw ∷ []) e.0,
-    ))
+    IfSome_then a (begins p)
+    (λ xs e. (e.0, rw (map-append without_cr raws (raw ∷ []), append_assoc (map without_cr raws) (without_cr raw ∷ []) e.0) at e.1))
 
 -- The bytes that the script wants.
 first_lines-length : (k : ℕ) (xs : List ℕ) → length (first_lines k xs) ≤ length xs

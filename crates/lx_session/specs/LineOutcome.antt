@@ -1,7 +1,6 @@
 -- What taking a line from a source and answering it comes to, in a session.
 use Rattle.std.specs.Prelude.{◌≡◌, ◌⊎◌, ℕ, Bool, true, false, Option, IfSome, Result, Ok, Err, List, [], ◌∷◌, ◌++◌}
 use Rattle.std.specs.Io.KnownBytes.{Appends, Keeps, IsAtEnd}
-use Rattle.lx_io.specs.declared.sink.SinkFault.{SinkFault}
 use Rattle.lx_io.specs.Puts.{AppendsFront}
 use Rattle.lx_io.specs.Told.{ToldBySource}
 use Rattle.lx_lex.specs.declared.lines.Lines.{Lines}
@@ -95,17 +94,6 @@ SinkStop by Stands told old new held held' s =
 -- What holds of a session at whose state what answers stood, since it began so, and which had counted this many.
 abbrev pub FromSession : {Since State : Type 0} → (Since → State → Type 0) → Tally → (Since → Session State → Type 0) → Type 0
 FromSession {Since} {State} Stood tally P = (since : Since) (s : Session State) → Stood since s.state → s.counts ≡ counts_in tally → P since s
-
--- Ok(true): the whole reply was written, and more is to come. Ok(false): the line is `quit`.
-abbrev pub ReplyOutcome : {Since : Type 0} → (by : Answering (List ℕ)) → (Stood Stands : Since → by.State → Type 0)
-    → (held held' : Known) → (counted tally : Tally) → List ℕ → Result Bool SinkFault → Type 0
-ReplyOutcome by Stood Stands held held' counted tally line (Ok true) =
-    (ends_script line ≡ false) × FromSession Stood counted (λ since s. WholeReply by (Stands since) held held' s line tally)
-ReplyOutcome by Stood Stands held held' counted tally line (Ok false) =
-    (ends_script line ≡ true) × FromSession Stood counted (λ since s. ScriptEnd (Stands since) held held' s tally)
-ReplyOutcome by Stood Stands held held' counted tally line (Err fault) =
-    FromSession Stood counted
-    (λ since s. (Untouched (Stands since) held held' s × (ends_script line ≡ true)) ⊎ ReplyPrefix by (Stands since) held held' s line)
 
 -- the script couldn't be read on
 pub record UnreadLine {S Since State : Type 0} (Stood Stands : Since → State → Type 0) (told : ToldBySource S) (old new : Lines S) (held held' : Known)

@@ -1,9 +1,9 @@
 //! One line of a session: it is taken from the source and answered.
 
-ghost use Rattle.std.specs.Prelude.{◌≡◌, ◌⊎◌, ◌≤◌, List, ℕ, Bool, [], true, false, Some, None, Err, IfOk, OnOk, OnErr, not, option_copied};
-ghost use Rattle.lx_session.specs.Imports.{Keeps, HasSinkCause, CanAdvance, SameSource, held, has_feed, lines_handed, TallyHasRoom};
-ghost use Rattle.lx_session.specs.Imports.{HasOneMore, IsUpTo, LineOutcome, ReplyOutcome, IsLine, MayTake, spared, HasSessionCause};
-ghost use Rattle.lx_session.specs.Imports.{WaitsFlushed};
+ghost use Rattle.std.specs.Prelude.{◌≡◌, ◌⊎◌, ◌≤◌, Bool, [], true, false, Some, None, Err, IfOk, OnOk, if◌then◌else◌, option_copied};
+ghost use Rattle.lx_session.specs.Imports.{Keeps, HasSinkCause, CanAdvance, SameSource, held, has_feed, lines_handed, HasOneMore, IsUpTo};
+ghost use Rattle.lx_lex.specs.Unread.{current_line};
+ghost use Rattle.lx_session.specs.Imports.{LineOutcome, MayTake, spared, HasSessionCause, WaitsFlushed};
 
 use crate::beside::AnswersBeside;
 use crate::fault::SessionFault;
@@ -39,16 +39,30 @@ pub(crate) fn take_line<D, A: AnswersBeside<D>, H: Heap, S: Source, K: Sink>(
     ensures more { HasOneMore tally.old tally.new }
 {
     flush_before_wait(lines, sink)?;
-    match lines.advance() {
-        Step::Line => Ok(give_reply(answerer, lent, heap, Some(lines.line()), sink, tally)?),
-        Step::LongLine => Ok(give_reply(answerer, lent, heap, None, sink, tally)?),
+    let whole = match lines.advance() {
+        Step::Line => true,
+        Step::LongLine => false,
         Step::End => {
             sink.flush()?;
-            Ok(false)
+            return Ok(false);
         }
-        Step::ReadFault => Err(SessionFault::ReadFault),
-        Step::InputTooLong => Err(SessionFault::InputTooLong),
+        Step::ReadFault => return Err(SessionFault::ReadFault),
+        Step::InputTooLong => return Err(SessionFault::InputTooLong),
+    };
+    let line = given_line(lines, whole);
+    if answerer.answer_beside(lent, heap, line, sink, tally)? {
+        return Ok(true);
     }
+    sink.flush()?;
+    Ok(false)
+}
+
+/// The line that was handed out, as it is given to what answers: none stands for one that is too long.
+#[inline(always)]
+fn given_line<'a, S: Source>(lines: &'a Lines<S>, whole: bool) -> Option<&'a [u8]>
+    ensures { option_copied result ≡ (if whole then Some (current_line lines.now) else None) }
+{
+    if whole { Some(lines.line()) } else { None }
 }
 
 /// Flushes the sink where the next line isn't held yet, so that reading it may wait.
@@ -62,35 +76,4 @@ fn flush_before_wait<S: Source, K: Sink>(lines: &Lines<S>, sink: &mut K) -> Resu
     } else {
         sink.flush()
     }
-}
-
-/// Answers a line, and flushes the sink where it ends the script.
-#[inline(always)]
-fn give_reply<D, A: AnswersBeside<D>, H: Heap, K: Sink>(
-    answerer: &mut A,
-    lent: &mut D,
-    heap: &mut H,
-    line: Option<&[u8]>,
-    sink: &mut K,
-    tally: &mut Tally,
-) -> Result<bool, SinkFault>
-    requires room { TallyHasRoom tally.old }
-    requires keeps { A.keeps answerer.old lent.old }
-    ensures keeps { A.keeps answerer.new lent.new }
-    ensures outcome { (all ample : Bool) → MayTake all ample (A.admitted_all answerer.new) (H.refusals heap.old) (H.refusals heap.new)
-        → (text : List ℕ) → IsLine (option_copied line.entry) text
-        → ReplyOutcome (spared ample (A.by all)) (λ since state. A.stands since all state answerer.old lent.old)
-        (λ since state. A.stands since all state answerer.new lent.new)
-        (K.holds sink.old) (K.holds sink.new) tally.old tally.new text result }
-    ensures all { A.admitted_all answerer.new ≡ true → A.admitted_all answerer.old ≡ true }
-    ensures later { H.refusals heap.old ≤ H.refusals heap.new }
-    ensures cause { HasSinkCause K.Sink sink.old sink.new result }
-    ensures handed_on { IfOk result (λ more. more ≡ false → K.back sink.new ≡ []) }
-    ensures more { HasOneMore tally.old tally.new }
-{
-    if answerer.answer_beside(lent, heap, line, sink, tally)? {
-        return Ok(true);
-    }
-    sink.flush()?;
-    Ok(false)
 }

@@ -1,19 +1,16 @@
 -- Levels at their places in a row and in the block.
-use Rattle.lx_sheet.proofs.Imports.{◌≡◌, ◌≢◌, ℕ, zero, suc, ◌+◌, ◌-◌, ◌*◌, ◌<◌, ◌≤◌, List, ◌∷◌, length, get_or, set}
-use Rattle.lx_sheet.proofs.Imports.{take, drop, refl, ◌∙◌, sym, ap, subst, inl, inr, arith, mul-le-mul_right, cases_lt, cases_order, get_or-take}
-use Rattle.lx_sheet.proofs.Imports.{get_or-drop, get_or_past, get_or-set_same, get_or-set_other, length-take, drop-take, Agree, level_in_look, last_value}
-use Rattle.lx_sheet.proofs.Imports.{CUES, width}
+use Rattle.lx_sheet.proofs.Imports.{◌≡◌, ◌≢◌, ℕ, zero, suc, ◌+◌, ◌-◌, ◌*◌, ◌<◌, ◌≤◌, List, ◌∷◌, length, get_or, set, take, drop, take_at, drop_at}
+use Rattle.lx_sheet.proofs.Imports.{refl, ◌∙◌, sym, ap, subst, inl, inr, arith, mul-le-mul_right, cases_lt, get_or-take, get_or-drop, get_or_past}
+use Rattle.lx_sheet.proofs.Imports.{get_or-set_same, get_or-set_other, length-take, drop-take, Agree, level_in_look, last_value, CUES, width}
 use borrow.Rule.Slice.PartMut.{put_mid}
-use Rattle.std.proofs.lemmas.Slice.{between-put_mid, take-put_mid_below, drop-put_mid}
+use Rattle.std.proofs.lemmas.Slice.{take-put_mid_below, drop-put_mid}
 use Rattle.std.proofs.lemmas.Nat.{same_from_place}
 use Rattle.lx_sheet.specs.Block.{cell}
 
-one_below : (c : ℕ) → 1 ≤ c → suc (c - 1) ≡ c
-one_below c least = omega arith
-
 -- the level of a channel stands below its number
 pub level_in_look_is : (levels : List ℕ) (c : ℕ) → 1 ≤ c → level_in_look levels c ≡ get_or levels (c - 1) 0
-level_in_look_is levels c least = subst (λ (n : ℕ). get_or (0 ∷ levels) n 0 ≡ get_or levels (c - 1) 0) (one_below c least) refl
+level_in_look_is levels c least =
+    let next : suc (c - 1) ≡ c = omega arith in subst (λ (n : ℕ). get_or (0 ∷ levels) n 0 ≡ get_or levels (c - 1) 0) next refl
 
 -- a level written
 pub level_in_look-set : (levels : List ℕ) (chan c level : ℕ) → 1 ≤ chan → chan ≤ length levels → c ≡ chan
@@ -43,13 +40,16 @@ cell_past channels levels k c more =
     ∙ get_or_past (take channels (drop (k * width channels) levels)) (c - 1) 0
     (omega (arith, length-take channels (drop (k * width channels) levels)))
 
-pub cell_zero : (channels : ℕ) (levels : List ℕ) (k : ℕ) → cell channels levels k 0 ≡ 0
+-- a cell is the same in two blocks that have its level at one place
+pub cell_same : (channels : ℕ) (new old : List ℕ) (k c : ℕ)
+    → (1 ≤ c → c ≤ channels → get_or new (k * width channels + (c - 1)) 0 ≡ get_or old (k * width channels + (c - 1)) 0)
+    → cell channels new k c ≡ cell channels old k c
 unfolding cell
-cell_zero channels levels k = refl
-
--- two places of the block are one only at one row and channel
-pub places_apart : (channels i k a b : ℕ) → a < channels → b < channels → i * channels + a ≡ k * channels + b → (i ≡ k) × (a ≡ b)
-places_apart channels i k a b = same_from_place i a k b channels
+cell_same channels new old k zero same = refl
+cell_same channels new old k (suc c) same = elim (cases_lt channels (suc c)) [
+  | inl past ↦ cell_past channels new k (suc c) past ∙ sym (cell_past channels old k (suc c) past)
+  | inr most ↦ cell_is channels new k (suc c) (omega arith) most ∙ same (omega arith) most ∙ sym (cell_is channels old k (suc c) (omega arith) most)
+]
 
 -- a level written into the block
 pub cell-set_here : (channels : ℕ) (levels : List ℕ) (k c level : ℕ) → 1 ≤ c → c ≤ channels → k * width channels + (c - 1) < length levels
@@ -60,58 +60,31 @@ cell-set_here channels levels k c level least most within = cell_is channels (se
 
 pub cell-set_other : (channels : ℕ) (levels : List ℕ) (k i chan c level : ℕ) → 1 ≤ chan → chan ≤ channels → (i ≡ k → c ≡ chan → ⊥)
     → cell channels (set levels (k * width channels + (chan - 1)) level) i c ≡ cell channels levels i c
-cell-set_other channels levels k i chan zero level least most other = cell_zero channels (set levels (k * width channels + (chan - 1))
-    level) i
-    ∙ sym (cell_zero channels levels i)
-cell-set_other channels levels k i chan (suc c) level least most other =
-    elim (cases_lt channels (suc c)) [
-      | inl past ↦ cell_past channels (set levels (k * width channels + (chan - 1)) level) i (suc c) past
-          ∙ sym (cell_past channels levels i (suc c) past)
-      | inr within ↦
-          let apart : i * width channels + (suc c - 1) ≢ k * width channels + (chan - 1) = λ same. let both =
-          places_apart (width channels) i k (suc c - 1) (chan - 1) (omega arith) (omega arith) same in other both.0
-          (omega (arith, both.1)) in
-          cell_is channels (set levels (k * width channels + (chan - 1)) level) i (suc c) (omega arith) within
-          ∙ get_or-set_other levels (k * width channels + (chan - 1)) (i * width channels + (suc c - 1)) level 0 apart
-          ∙ sym (cell_is channels levels i (suc c) (omega arith) within)
-    ]
+cell-set_other channels levels k i chan c level least most other = cell_same channels _ levels i c (λ low high.
+    get_or-set_other levels (k * width channels + (chan - 1)) (i * width channels + (c - 1)) level 0 (λ same.
+    let both = same_from_place i (c - 1) k (chan - 1) (width channels) (omega arith) (omega arith) same in
+    other both.0 (omega (arith, both.1))))
 
 -- a row written into the block
-pub row_here : (channels : ℕ) (levels look : List ℕ) (place end : ℕ) → end ≡ place * width channels + channels
-    → place * width channels ≤ length levels
-    → length look ≡ channels → take channels (drop (place * width channels) (put_mid (place * width channels)
-    (end - place * width channels) levels look))
-    ≡ look
-row_here channels levels look place end is within long =
-    let whole : end - place * width channels ≡ channels = omega arith in
-    let P : ℕ → Type 0 = λ n. take n (drop (place * width channels) (put_mid (place * width channels) (end - place * width channels) levels
-    look)) ≡ look in
-    subst P whole (between-put_mid (place * width channels) (end - place * width channels) levels look end within (omega arith))
+pub row_here : {channels : ℕ} (k : ℕ) (levels look : List ℕ) (place : ℕ) → place * width channels ≤ length levels → length look ≡ channels
+    → take channels (drop (place * width channels) (put_mid (place * width channels) k levels look)) ≡ look
+row_here {channels} k levels look place within long = ap (take channels) (drop_at (take (place * width channels) levels) _
+    (place * width channels) (omega (arith, length-take (place * width channels) levels))) ∙ take_at look _ channels long
 
-pub row_other : (channels : ℕ) (levels look : List ℕ) (k place end : ℕ) → end ≡ place * width channels + channels
-    → place * width channels ≤ length levels → length look ≡ channels → k ≢ place
-    → take channels (drop (k * width channels) (put_mid (place * width channels) (end - place * width channels) levels look))
-    ≡ take channels (drop (k * width channels) levels)
-row_other channels levels look k place end is within long other =
-    elim (cases_order k place) [
-      | inl here ↦ absurd (other here)
-      | inr apart ↦ elim apart [
-        | inl less ↦
-            let below : k * width channels + channels ≤ place * width channels = let m =
-            mul-le-mul_right {m = suc k} {n = place} (width channels) (omega arith) in omega (arith, m) in
-            sym (drop-take (k * width channels) channels (put_mid (place * width channels) (end - place * width channels) levels look))
-            ∙ ap (drop (k * width channels)) (take-put_mid_below (place * width channels) (end - place * width channels) levels look
-            (k * width channels + channels)
-            below within)
-            ∙ drop-take (k * width channels) channels levels
-        | inr more ↦
-            let above : place * width channels + channels ≤ k * width channels = let m =
-            mul-le-mul_right {m = suc place} {n = k} (width channels) (omega arith) in omega (arith, m) in
-            ap (take channels) (drop-put_mid (place * width channels) (end - place * width channels) levels look (k * width channels)
-            (omega arith) within
-            (omega arith))
-      ]
-    ]
+pub row_other : {channels : ℕ} (k : ℕ) (levels look : List ℕ) (i place : ℕ) → k ≡ channels → place * width channels ≤ length levels
+    → length look ≡ channels → i ≢ place → take channels (drop (i * width channels) (put_mid (place * width channels) k levels look))
+    ≡ take channels (drop (i * width channels) levels)
+row_other {channels} k levels look i place whole within long other = elim (cases_lt i place) [
+  | inl less ↦
+      let below = mul-le-mul_right {m = suc i} {n = place} (width channels) less in
+      sym (drop-take (i * width channels) channels _) ∙ ap (drop (i * width channels)) (take-put_mid_below (place * width channels) k levels
+      look (i * width channels + channels) (omega (arith, below)) within)
+      ∙ drop-take (i * width channels) channels levels
+  | inr more ↦
+      let above = mul-le-mul_right {m = suc place} {n = i} (width channels) (omega (arith, other, more)) in
+      ap (take channels) (drop-put_mid (place * width channels) k levels look (i * width channels) (omega (arith, above, whole)) within
+      (omega (arith, whole, long)))
+]
 
 -- of some values the last is that at the place before their count
 pub last_value_some : (count : ℕ) (f : ℕ → ℕ) → count ≢ 0 → last_value count f ≡ f (count - 1)

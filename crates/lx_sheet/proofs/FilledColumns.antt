@@ -1,10 +1,9 @@
 -- A column that was filled in from a cue on stands for the show.
-use Rattle.lx_sheet.proofs.Imports.{◌≡◌, ℕ, zero, suc, ◌+◌, ◌<◌, ◌≤◌, ◌&&◌, Bool, true, List, [], ◌∷◌, length, get_or, take}
-use Rattle.lx_sheet.proofs.Imports.{◌∙◌, subst, arith, inl, inr, Option, IfSome, filter, find, option_map}
-use Rattle.lx_sheet.proofs.Imports.{nat_le, nat_lt, cases_lt, length-map, get_or-map}
-use Rattle.lx_sheet.proofs.Imports.{slice_get-get_or, All-from_recursion, IsStrictlySorted, Cue, Show, new_cue}
-use Rattle.lx_sheet.proofs.Imports.{decides, tracked, lt_true, entries_up_to, Place, Sheet, level_by, level_of, rows_of, cue_level, last_value}
-use Rattle.lx_sheet.proofs.Imports.{count_under, level_after, IsEnd, IsRight, StandsFrom, cue_numbers, next_decision}
+use Rattle.lx_sheet.proofs.Imports.{◌≡◌, ℕ, zero, suc, ◌+◌, ◌<◌, ◌≤◌, ◌&&◌, Bool, true, List, [], ◌∷◌, length, get_or, take, ◌∙◌, subst, arith, inl}
+use Rattle.lx_sheet.proofs.Imports.{inr, Option, IfSome, filter, find, option_map, nat_le, nat_lt, cases_lt, length-map, get_or-map, slice_get-get_or}
+use Rattle.lx_sheet.proofs.Imports.{All-from_recursion, IsStrictlySorted, Cue, Show, new_cue, decides, tracked, lt_true, entries_up_to, Place, Sheet}
+use Rattle.lx_sheet.proofs.Imports.{level_by, level_of, rows_of, cue_level, last_value, count_under, level_after, IsEnd, IsRight, StandsFrom}
+use Rattle.lx_sheet.proofs.Imports.{cue_numbers, next_decision}
 use Rattle.std.proofs.lemmas.Bool.{cases_Bool}
 use Rattle.std.proofs.lemmas.Bool.Decides.{nat_tests}
 use Rattle.lx_spec.proofs.Lists.{find_both}

@@ -1,6 +1,6 @@
 -- The levels after a list of cues, one cue on.
-use Rattle.lx_sheet.proofs.Imports.{◌≡◌, ℕ, ◌+◌, ◌<◌, true, false, cond, List, [], ◌∷◌, ◌++◌, length, get_or, take, refl, ◌∙◌}
-use Rattle.lx_sheet.proofs.Imports.{sym, ap, Some, find, reverse, option_map_or, take_more, reverse-append, Cue, decides, level_in, tracked_on}
+use Rattle.lx_sheet.proofs.Imports.{◌≡◌, ℕ, ◌+◌, ◌<◌, true, false, cond, List, [], ◌∷◌, ◌++◌, length, get_or, take, refl, ◌∙◌, sym, ap, Some, find}
+use Rattle.lx_sheet.proofs.Imports.{reverse, option_map_or, take_more, reverse-append, Cue, decides, level_in, tracked_on}
 use Rattle.lx_sheet.specs.After.{level_after}
 
 pub level_after-nil : (c : ℕ) → level_after [] c ≡ 0

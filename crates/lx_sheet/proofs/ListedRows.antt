@@ -1,8 +1,8 @@
 -- Cues that were listed again, each with the row of its own place.
-use Rattle.lx_sheet.proofs.Imports.{◌≡◌, ℕ, suc, ◌+◌, ◌*◌, ◌<◌, ◌≤◌, List, [], ◌∷◌, ◌++◌, length, get_or, map, take, reverse, refl, ◌∙◌, sym, ap, subst}
-use Rattle.lx_sheet.proofs.Imports.{arith, range_with_len, length-range_with_len, get_or-range_with_len, mul-le-mul_right, IsPermutation-append_right}
-use Rattle.lx_sheet.proofs.Imports.{IsPermutation-reverse, Cue, Show, IsStrictlySorted, Marks, Place, CHANNELS, CUES, cell, own_rows, placed_from, width}
-use Rattle.lx_sheet.proofs.Imports.{row_at_place, IsBlock, IsMarkedFor, IsPool, level_after}
+use Rattle.lx_sheet.proofs.Imports.{◌≡◌, ℕ, suc, ◌+◌, ◌*◌, ◌<◌, ◌≤◌, List, [], ◌∷◌, ◌++◌, length, get_or, map, take, reverse, refl, ◌∙◌, sym, ap}
+use Rattle.lx_sheet.proofs.Imports.{subst, arith, range_with_len, length-range_with_len, get_or-range_with_len, mul-le-mul_right}
+use Rattle.lx_sheet.proofs.Imports.{IsPermutation-append_right, IsPermutation-reverse, Cue, Show, IsStrictlySorted, Marks, Place, CHANNELS, CUES}
+use Rattle.lx_sheet.proofs.Imports.{cell, own_rows, placed_from, width, row_at_place, IsBlock, IsMarkedFor, IsPool, level_after}
 use Rattle.lx_sheet.proofs.MarkedRows.{AtPlaces}
 use Rattle.lx_sheet.proofs.Numbers.{sorted_alike, same_length}
 use Rattle.lx_sheet.proofs.RowPool.{own_apart, pool_moved, range_append, range_apart}

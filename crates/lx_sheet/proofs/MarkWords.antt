@@ -1,17 +1,16 @@
 -- The words of marks, each at its place, and the bits that are set in them.
-use Rattle.lx_sheet.proofs.Imports.{◌≡◌, ℕ, suc, zero, ◌+◌, ◌*◌, ◌/◌, ◌%◌, ◌<◌, ◌≤◌, true, List, [], ◌∷◌, length}
-use Rattle.lx_sheet.proofs.Imports.{get_or, set, ap, subst, inl, inr, arith, bit_or, bit_at, cases_eq, false≢true, get_or-map}
-use Rattle.lx_sheet.proofs.Imports.{get_or-set_same, get_or-set_other, length-map, All, All-from_recursion, All-map, bit_at_or, bit_at-lt, Move, InRange}
-use Rattle.lx_sheet.proofs.Imports.{IsStrictlySorted, has_entry, eq_other, bit_of, chan_at, group_of, row_bit, word_place}
+use Rattle.lx_sheet.proofs.Imports.{◌≡◌, ℕ, suc, ◌+◌, ◌*◌, ◌/◌, ◌%◌, ◌<◌, ◌≤◌, true, List, [], ◌∷◌, length, map, get_or, set, subst, inl, inr, arith}
+use Rattle.lx_sheet.proofs.Imports.{bit_or, bit_at, cases_eq, false≢true, get_or-map, get_or-set_same, get_or-set_other, length-map, All, All-map}
+use Rattle.lx_sheet.proofs.Imports.{bit_at_or, bit_at-lt, Move, InRange, IsStrictlySorted, has_entry, eq_other, bit_of, chan_at, group_of, row_bit}
+use Rattle.lx_sheet.proofs.Imports.{word_place}
 use Rattle.std.proofs.lemmas.Nat.{same_from_place}
-
-in_tile : (k : ℕ) → k % 64 < 64
-in_tile k = omega arith
+use Rattle.lx_spec.proofs.SortedLists.{in_order}
+use Rattle.lx_sheet.proofs.Numbers.{sorted_numbers}
 
 -- two places are one only at one row and group
 pub places_differ : (groups r q g h : ℕ) → g < groups → h < groups → word_place groups r g ≡ word_place groups q h → (r ≡ q) × (g ≡ h)
 places_differ groups r q g h low high same =
-    let tile = same_from_place (r / 64 * groups + g) (r % 64) (q / 64 * groups + h) (q % 64) 64 (in_tile r) (in_tile q) same in
+    let tile = same_from_place (r / 64 * groups + g) (r % 64) (q / 64 * groups + h) (q % 64) 64 (omega arith) (omega arith) same in
     let word = same_from_place (r / 64) g (q / 64) h groups low high tile.0 in
     (omega (arith, tile.1, word.0), word.1)
 
@@ -71,21 +70,10 @@ group_within groups k moves within all =
     omega (arith, range.least, range.most)
 
 -- the channels of moves rise
-pub chans_rise : (moves : List Move) (i k : ℕ) → IsStrictlySorted (λ m. m.chan) moves → i < k → k < length moves
-    → chan_at moves i < chan_at moves k
-chans_rise [] i k sorted less within = absurd (omega (arith, within))
-chans_rise (m ∷ moves) zero zero sorted less within = absurd (omega arith)
-chans_rise (m ∷ moves) (suc i) zero sorted less within = absurd (omega arith)
-chans_rise (m ∷ moves) zero (suc k) sorted less within =
-    chan_has (λ c. m.chan < c) moves k (omega arith) (All-from_recursion (λ x. m.chan < x.chan) moves sorted.0)
-chans_rise (m ∷ moves) (suc i) (suc k) sorted less within = chans_rise moves i k sorted.1 (omega arith) (omega arith)
-
 never_above : (moves : List Move) (i k : ℕ) → IsStrictlySorted (λ m. m.chan) moves → i ≤ k → k < length moves
     → chan_at moves i ≤ chan_at moves k
-never_above moves i k sorted le within = elim (cases_eq i k) [
-  | inl here ↦ omega (arith, ap (chan_at moves) here)
-  | inr apart ↦ omega (arith, chans_rise moves i k sorted (omega arith) within)
-]
+never_above moves i k sorted le within = in_order (λ n. n) (map (λ (m : Move). m.chan) moves)
+    (sorted_numbers (λ (m : Move). m.chan) moves sorted) i k 0 le (omega (arith, length-map moves (λ (m : Move). m.chan)))
 
 -- moves between two of one group are in it
 pub same_group : (moves : List Move) (i k j : ℕ) → IsStrictlySorted (λ m. m.chan) moves → i ≤ k → k ≤ j → j < length moves

@@ -1,18 +1,19 @@
 -- The marks of rows: by their places in the order, and by the numbers of the cues.
-use Rattle.lx_sheet.proofs.Imports.{◌≡◌, ◌≢◌, ℕ, zero, suc, ◌+◌, ◌*◌, ◌/◌, ◌<◌, ◌≤◌, Bool, true, List, [], ◌∷◌}
+use Rattle.lx_sheet.proofs.Imports.{◌≡◌, ◌≢◌, ℕ, zero, suc, ◌+◌, ◌*◌, ◌/◌, ◌<◌, ◌≤◌, Bool, true, List, ◌∷◌, HoldsRows, Valid, HasPlaces, Sheet}
+use Rattle.lx_sheet.proofs.Imports.{IsOrder, insert, remove, length-map, own_rows, IsPermutation-insert, IsPermutation-remove, All-permutation}
 use Rattle.lx_sheet.proofs.Imports.{length, get_or, map, max, Some, None, refl, ◌∙◌, sym, ap, subst, inl, inr, arith, Option, IfSome, ◌==◌, slice_get}
-use Rattle.lx_sheet.proofs.Imports.{slice_index_or, option_map_or, range_with_len, mul-le-mul_right, cases_eq, cases_lt, get_or_default, get_or-map}
-use Rattle.lx_sheet.proofs.Imports.{get_or_past, All-from_recursion, get_or-map-range_with_len, length-map-range_with_len, slice_get-get_or, slice_get_within}
-use Rattle.lx_sheet.proofs.Imports.{get_or_from_slice_get, IsStrictlySorted, entry_at, Cue, InRange, Show, ValidCue, cue_of, decides, eq_other, eq_true, each}
-use Rattle.lx_sheet.proofs.Imports.{find_mapped, map_or_mapped, StandsAt, stands_where, Marks, Place, CueMarks, AreMarked, marks_of}
-use Rattle.lx_sheet.proofs.Imports.{row_at_place, width, IsGrown, IsMarkTable, IsMarkedFor, IsReached, Tells, has_mark, MovesWithin, IsRight, IsMarked}
-use Rattle.lx_sheet.proofs.Imports.{HoldsMarks, IsBlock, cell, cue_numbers}
-use Rattle.lx_sheet.proofs.Imports.{IsMarkedAt, RowsStandFor}
+use Rattle.lx_sheet.proofs.Imports.{slice_index_or, option_map_or, range_with_len, mul-le-mul_right, cases_lt, get_or_default, get_or-map}
+use Rattle.lx_sheet.proofs.Imports.{get_or_past, All-from_recursion, get_or-map-range_with_len, length-map-range_with_len, slice_get-get_or}
+use Rattle.lx_sheet.proofs.Imports.{slice_get_within, get_or_from_slice_get, IsStrictlySorted, entry_at, Cue, InRange, Show, ValidCue, cue_of}
+use Rattle.lx_sheet.proofs.Imports.{decides, each, find_mapped, map_or_mapped, StandsAt, stands_where, Marks, Place, CueMarks, AreMarked, marks_of}
+use Rattle.lx_sheet.proofs.Imports.{row_at_place, width, IsGrown, IsMarkTable, IsMarkedFor, IsReached, Tells, has_mark, MovesWithin, IsRight}
+use Rattle.lx_sheet.proofs.Imports.{IsMarked, HoldsMarks, IsBlock, cell, cue_numbers, IsMarkedAt, RowsStandFor}
+use Rattle.std.proofs.lemmas.List.Elements.{All-cons}
 use Rattle.lx_sheet.specs.Rows.{marked_by}
 use Rattle.lx_sheet.proofs.BlockReach.{covered_at}
-use Rattle.lx_sheet.proofs.Found.{stands_number}
+use Rattle.lx_sheet.proofs.Found.{at_entry, stands_number}
 use Rattle.lx_sheet.proofs.RightRows.{IsOrderOf, column_right, order_length, order_of, right_at}
-use Rattle.lx_sheet.proofs.RowPool.{row_is, rows_differ}
+use Rattle.lx_sheet.proofs.RowPool.{own-insert, own-remove, own_apart, row_is, rows_differ}
 use Rattle.lx_sheet.proofs.Rows.{numbers-rows_of, sheet_of}
 
 -- the moves of a valid cue
@@ -36,13 +37,6 @@ reached_grown {old} {new} row grown reached =
     let P : ℕ → Type 0 = λ n. (row / 64 + 1) * n * 64 ≤ length new.words.items in
     subst P (sym grown.groups) (omega (arith, grown.words, reached))
 
-pub marks_kept : {channels : ℕ} {levels new : List ℕ} {was marks : Marks} → HoldsMarks channels levels was → IsGrown was marks
-    → length new ≡ length levels → HoldsMarks channels new marks
-marks_kept marked grown same = record {
-  table = table_grown grown marked.table;
-  reached = λ r within. reached_grown r grown (marked.reached r (omega (arith, within, same)));
-}
-
 pub grown_on : {a b c : Marks} → IsGrown a b → IsGrown b c → IsGrown a c
 grown_on first then = record {
   groups = then.groups ∙ first.groups;
@@ -52,6 +46,26 @@ grown_on first then = record {
 
 pub grown_none : (marks : Marks) → IsGrown marks marks
 grown_none marks = record { groups = refl; room = omega arith; words = omega arith }
+
+-- where levels and marks were written, and the look, which is as long as before
+pub rows_held : {channels room spare capacity : ℕ} {order : List Place} {free levels filled look now : List ℕ} {was marks : Marks}
+    → HoldsRows channels order room free spare levels capacity look was → IsGrown was marks → length filled ≡ length levels
+    → length now ≡ length look → HoldsRows channels order room free spare filled capacity now marks
+rows_held held grown same long = record {
+  kept = held.kept;
+  block = record { few = held.block.few; covered = λ k d within. omega (arith, held.block.covered k d within, same); apart = held.block.apart };
+  level_room = held.level_room;
+  look_room = long ∙ held.look_room;
+  marked = record {
+    table = table_grown grown held.marked.table;
+    reached = λ r within. reached_grown r grown (held.marked.reached r (omega (arith, within, same)));
+  };
+}
+
+-- a place of the order for each cue of a valid show
+pub has_places : {show : Show} {channels : ℕ} {order : List Place} {levels : List ℕ} → Valid show → channels ≡ show.channels
+    → IsBlock channels levels order → length order ≡ length show.cues → HasPlaces channels levels order show.cues
+has_places valid same block places = record { block = block; places = places; valid = rw same valid.cues }
 
 -- where both the block and the table reach over more rows
 pub marks_reached : {channels : ℕ} {levels new : List ℕ} {was marks : Marks} (rows : ℕ) → HoldsMarks channels levels was → IsGrown was marks
@@ -65,16 +79,53 @@ marks_reached {channels} rows marked grown more long = record {
   ];
 }
 
--- What is true of the entry with a number: it stands somewhere, or there is none.
-pub at_entry : {A : Type 0} (key : A → ℕ) (n : ℕ) (xs : List A) (P : Option A → Type 0) → P None
-    → ((k : ℕ) (x : A) → slice_get xs k ≡ Some x → key x ≡ n → P (Some x)) → P (entry_at key n xs)
-at_entry key n [] P none some = none
-at_entry key n (x ∷ xs) P none some = elim (cases_eq (key x) n) [
-  | inl here ↦ rw (eq_true (key x) n here) (some 0 x refl here)
-  | inr other ↦ rw (eq_other (key x) n other) (at_entry key n xs P none (λ k. some (suc k)))
-]
+-- where a cue came, over whose row the block and the table reach
+pub row_came : {channels room spare capacity space place keep : ℕ} {old new lent : List Place} {free more levels grown look : List ℕ}
+    {was marks : Marks} {row : ℕ} (at n : ℕ) → HoldsRows channels old room free spare levels capacity look was → IsOrder new space more place
+    → new ≡ insert old at (record { cue = n; row = row_at_place new at }) → lent ≡ new → row ≡ row_at_place lent at
+    → length grown ≡ max (length levels) ((row + 1) * width channels) → capacity ≤ keep → IsGrown was marks
+    → ((r : ℕ) → r < row + 1 → IsReached marks r) → HoldsRows channels new space more place grown keep look marks
+row_came {channels} {old = old} {new} {grown = grown} {row = row} at n held kept added same is long wider table reached =
+    let P : ℕ → Type 0 = λ r. (r + 1) * width channels ≤ length grown in
+    let own : ℕ = row_at_place new at in
+    let here : P own = rw (← same, ← is) (omega (arith, long)) in
+    record {
+      kept = kept;
+      block = record {
+        few = held.block.few;
+        covered = rw (ap own_rows added ∙ own-insert old at (record { cue = n; row = own }))
+            (All-permutation P (own ∷ own_rows old) (insert (own_rows old) at own) (IsPermutation-insert (own_rows old) at own)
+            (All-cons P own (own_rows old) here (λ k d within. omega (arith, held.block.covered k d within, long))));
+        apart = own_apart kept.pool;
+      };
+      level_room = omega (arith, wider, held.level_room);
+      look_room = held.look_room;
+      marked = marks_reached (row + 1) held.marked table reached long;
+    }
 
--- and of the one at a place
+-- and where one went
+pub row_gone : {channels room spare capacity space place : ℕ} {old new : List Place} {free more levels look : List ℕ} {marks : Marks}
+    (at : ℕ) → HoldsRows channels old room free spare levels capacity look marks → IsOrder new space more place → new ≡ remove old at
+    → at < length old → HoldsRows channels new space more place levels capacity look marks
+row_gone {channels} {old = old} {levels = levels} at held kept dropped within =
+    let P : ℕ → Type 0 = λ r. (r + 1) * width channels ≤ length levels in
+    let there : at < length (own_rows old) = omega (arith, length-map old (λ (p : Place). p.row)) in
+    let row : ℕ = get_or (own_rows old) at 0 in
+    let all = All-permutation P (own_rows old) (row ∷ remove (own_rows old) at)
+    (IsPermutation-remove (own_rows old) at row there (get_or_default (own_rows old) at 0 row there)) held.block.covered in
+    record {
+      kept = kept;
+      block = record {
+        few = held.block.few;
+        covered = rw (ap own_rows dropped ∙ own-remove old at) (λ k d less. all (suc k) d (omega arith));
+        apart = own_apart kept.pool;
+      };
+      level_room = held.level_room;
+      look_room = held.look_room;
+      marked = held.marked;
+    }
+
+-- What is true of the entry at a place.
 pub at_place : {A : Type 0} (o : Option A) (P : A → Type 0) → ((x : A) → o ≡ Some x → P x) → IfSome o P
 at_place None P some = tt
 at_place (Some x) P some = some x refl
@@ -83,16 +134,19 @@ at_place (Some x) P some = some x refl
 abbrev mark_in : ℕ → Marks → ℕ → ℕ → Bool
 mark_in channels marks row c = slice_index_or (true ∷ map (has_mark marks row) (range_with_len 1 channels)) c true
 
-mark_in_range : (channels : ℕ) (marks : Marks) (row c : ℕ) → 1 ≤ c → c ≤ channels → mark_in channels marks row c ≡ has_mark marks row c
-mark_in_range channels marks row zero least most = absurd (omega arith)
-mark_in_range channels marks row (suc c) least most = get_or-map-range_with_len (has_mark marks row) 1 channels c (suc c) true
-    (omega arith) (omega arith)
+-- it is that of the table, and set past the channels
+mark_is : (channels : ℕ) (marks : Marks) (row c : ℕ) (b : Bool) → (1 ≤ c → c ≤ channels → has_mark marks row c ≡ b)
+    → ((1 ≤ c → channels < c) → b ≡ true) → mark_in channels marks row c ≡ b
+mark_is channels marks row zero b within past = sym (past (λ least. absurd (omega (arith, least))))
+mark_is channels marks row (suc c) b within past = elim (cases_lt channels (suc c)) [
+  | inl more ↦ get_or_past (map (has_mark marks row) (range_with_len 1 channels)) c true
+      (omega (arith, length-map-range_with_len (has_mark marks row) 1 channels)) ∙ sym (past (λ _. more))
+  | inr most ↦ get_or-map-range_with_len (has_mark marks row) 1 channels c (suc c) true (omega arith) (omega arith)
+      ∙ within (omega arith) most
+]
 
-mark_in_past : (channels : ℕ) (marks : Marks) (row c : ℕ) → (1 ≤ c → channels < c) → mark_in channels marks row c ≡ true
-mark_in_past channels marks row zero past = refl
-mark_in_past channels marks row (suc c) past =
-    get_or_past (map (has_mark marks row) (range_with_len 1 channels)) c true
-    (omega (arith, past (omega arith), length-map-range_with_len (has_mark marks row) 1 channels))
+mark_there : (channels : ℕ) (marks : Marks) (row c : ℕ) → 1 ≤ c → c ≤ channels → mark_in channels marks row c ≡ has_mark marks row c
+mark_there channels marks row c least most = mark_is channels marks row c _ (λ _ _. refl) (λ past. absurd (omega (arith, past least, most)))
 
 marked_in : (channels : ℕ) (order : List Place) (marks : Marks) (n c : ℕ) → marked_by (marks_of channels order marks) n c
     ≡ option_map_or (λ p. mark_in channels marks p.row c) (entry_at (λ p. p.cue) n order) true
@@ -110,25 +164,13 @@ marked_there {order} {n} {k} channels marks c stands =
     marked_in channels order marks n c
     ∙ rw (stands.here ∙ slice_get-get_or order k d stands.within, get_or-map (λ (x : Place). x.row) order k d 0 stands.within) refl
 
--- a channel is in range or past it
-in_or_past : {R : Type 0} (channels c : ℕ) → (1 ≤ c → c ≤ channels → R) → ((1 ≤ c → channels < c) → R) → R
-in_or_past channels c within past = elim (cases_lt channels c) [
-  | inl more ↦ past (λ _. more)
-  | inr most ↦ elim (cases_lt c 1) [
-    | inl none ↦ past (λ least. absurd (omega (arith, none, least)))
-    | inr least ↦ within least most
-  ]
-]
-
 -- the channels that a cue decides are marked at its number where they are in its row
 marked_number : {order : List Place} {n k : ℕ} (channels : ℕ) (marks : Marks) (cue : Cue) → StandsAt (λ p. p.cue) n order k
     → IsMarkedFor channels marks (row_at_place order k) cue → (c : ℕ) → decides cue c ≡ true → marked_by (marks_of channels order marks) n
     c ≡ true
 marked_number {order} {k = k} channels marks cue stands right c is =
     marked_there channels marks c stands
-    ∙ in_or_past channels c
-    (λ least most. mark_in_range channels marks (row_at_place order k) c least most ∙ right c least most is)
-    (mark_in_past channels marks (row_at_place order k) c)
+    ∙ mark_is channels marks (row_at_place order k) c true (λ least most. right c least most is) (λ _. refl)
 
 same_place : {show : Show} {order : List Place} (k : ℕ) (cue : Cue) → IsOrderOf show order → k < length show.cues
     → cue ≡ get_or show.cues k cue
@@ -157,11 +199,8 @@ pub marks_right : {show : Show} {order : List Place} (channels : ℕ) (levels : 
     → IsMarked show (sheet_of channels order levels marks) → AreMarked channels order show.cues marks
 marks_right {show} {order} channels levels marks is marked k cue within here c least most decided =
     let stands = stands_where (λ (x : Cue). x.number) cue.number show.cues k cue is.cues_sorted within here refl in
-    let right : (x : ℕ) → decides cue x ≡ true → marked_by (marks_of channels order marks) cue.number x ≡ true =
-    subst (λ (o : Option Cue). IfSome o (λ y. (x : ℕ) → decides y x ≡ true
-    → marked_by (marks_of channels order marks) cue.number x ≡ true))
-    (stands.here ∙ slice_get-get_or show.cues k cue within ∙ ap Some (sym here)) (marked cue.number) in
-    sym (mark_in_range channels marks (row_at_place order k) c least most)
+    let right = rw (stands.here ∙ slice_get-get_or show.cues k cue within ∙ ap Some (sym here)) at (marked cue.number) in
+    sym (mark_there channels marks (row_at_place order k) c least most)
     ∙ sym (marked_there channels marks c (same_place k cue is within here)) ∙ right c decided
 
 -- Where the marks of one row were written again, those of the other cues are as before.
@@ -180,10 +219,9 @@ marked_others {channels} {order = order} {n} {at} old new block stands same m c 
     ∙ stands_number p stands) in
     let apart_row : p.row ≢ row_at_place order at = λ e. rows_differ k at block within stands.within differ (row_is order k p within is
     ∙ e) in
-    in_or_past channels c
-    (λ least most. mark_in_range channels new p.row c least most ∙ same p.row c apart_row least most
-    ∙ sym (mark_in_range channels old p.row c least most))
-    (λ past. mark_in_past channels new p.row c past ∙ sym (mark_in_past channels old p.row c past)))
+    mark_is channels new p.row c _
+    (λ least most. same p.row c apart_row least most ∙ sym (mark_there channels old p.row c least most))
+    (λ past. mark_is channels old p.row c true (λ least most. absurd (omega (arith, past least, most))) (λ _. refl)))
     ∙ sym (marked_in channels order old m c)
 
 -- and those of the cue are right, if it is there
@@ -197,8 +235,7 @@ pub marked_absent : (show : Show) (channels n : ℕ) (order : List Place) (level
     → entry_at (λ p. p.cue) n order ≡ None → IsMarkedAt show (sheet_of channels order levels marks) n
 marked_absent show channels n order levels marks absent =
     at_place (cue_of show n) (λ cue. (c : ℕ) → decides cue c ≡ true → marked_by (marks_of channels order marks) n c ≡ true)
-    (λ cue there c is. marked_in channels order marks n c
-    ∙ ap (λ (o : Option Place). option_map_or (λ p. mark_in channels marks p.row c) o true) absent)
+    (λ cue there c is. rw (marked_in channels order marks n c, absent) refl)
 
 -- The rows and the marks at the places of an order are those of the show's cues.
 pub record AtPlaces (show : Show) (channels : ℕ) (order : List Place) (levels : List ℕ) (marks : Marks) : Type 0 where
@@ -208,14 +245,16 @@ pub record AtPlaces (show : Show) (channels : ℕ) (order : List Place) (levels 
   pub marked : AreMarked channels order show.cues marks
 
 -- That is so where the sheet stands for the show, and only there.
-pub at_places : {show : Show} {channels : ℕ} {order : List Place} {levels : List ℕ} {marks : Marks} → IsStrictlySorted (λ p. p.cue) order
-    → RowsStandFor show (sheet_of channels order levels marks) → AtPlaces show channels order levels marks
-at_places {show} {channels} {order} {levels} {marks} sorted stands =
-    let is : IsOrderOf show order = order_of channels levels sorted stands.numbers in record {
-      same = stands.channels;
+pub at_places : {show : Show} {channels : ℕ} {order : List Place} (levels : List ℕ) (marks : Marks) {sheet : Sheet}
+    → sheet_of channels order levels marks ≡ sheet → IsStrictlySorted (λ p. p.cue) order → RowsStandFor show sheet
+    → AtPlaces show channels order levels marks
+at_places {show} {channels} {order} levels marks seen sorted stands =
+    let stood : RowsStandFor show (sheet_of channels order levels marks) = rw seen stands in
+    let is : IsOrderOf show order = order_of show levels marks refl sorted stood.numbers in record {
+      same = stood.channels;
       is = is;
-      right = λ k c within. right_at is channels levels c k within (stands.columns c (get_or (cue_numbers show) k 0));
-      marked = marks_right channels levels marks is stands.marks;
+      right = λ k c within. right_at is channels levels c k within (stood.columns c (get_or (cue_numbers show) k 0));
+      marked = marks_right channels levels marks is stood.marks;
     }
 
 pub stands_of : {show : Show} {channels : ℕ} {order : List Place} {levels : List ℕ} {marks : Marks} → AtPlaces show channels order levels

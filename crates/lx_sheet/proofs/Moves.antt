@@ -1,8 +1,7 @@
 -- The moves of a cue placed one after another.
-use Rattle.lx_sheet.proofs.Imports.{◌≡◌, ℕ, zero, suc, ◌+◌, ◌-◌, ◌<◌, ◌≤◌, List, [], ◌∷◌, length, get_or, set}
-use Rattle.lx_sheet.proofs.Imports.{drop, ◌∙◌, sym, ap, inl, inr, arith, subst, AllByRecursion, option_map_or, cases_eq, drop_more}
-use Rattle.lx_sheet.proofs.Imports.{Move, InRange, IsStrictlySorted, entry_at, level_in_look, eq_above, eq_other, eq_true, each, find_none}
-use Rattle.lx_sheet.proofs.Imports.{IsStrictlySorted-drop}
+use Rattle.lx_sheet.proofs.Imports.{◌≡◌, ℕ, zero, suc, ◌+◌, ◌-◌, ◌<◌, ◌≤◌, List, [], ◌∷◌, length, get_or, set, drop, ◌∙◌, sym, ap, inl, inr, arith}
+use Rattle.lx_sheet.proofs.Imports.{subst, AllByRecursion, option_map_or, cases_eq, drop_more, Move, InRange, IsStrictlySorted, entry_at}
+use Rattle.lx_sheet.proofs.Imports.{level_in_look, eq_above, eq_other, eq_true, each, find_none, IsStrictlySorted-drop}
 use Rattle.lx_sheet.proofs.Cells.{level_in_look-set, level_in_look-other}
 
 -- the level that the moves set, or the one before
@@ -46,12 +45,8 @@ chan_at_place (m ∷ moves) c zero d sorted above below within = omega (arith, f
 chan_at_place (m ∷ moves) c (suc i) d sorted above below within =
     let first : m.chan ≡ c + 1 = first_chan m moves c sorted above.0 below in
     let top : c + length (m ∷ moves) ≡ m.chan + length moves = omega arith in
-    omega (
-      arith,
-      first,
-      chan_at_place moves m.chan i d sorted.1 sorted.0
-          (subst (λ n. AllByRecursion (λ x. x.chan ≤ n) moves) top below.1) (omega arith),
-    )
+    let low = subst (λ n. AllByRecursion (λ x. x.chan ≤ n) moves) top below.1 in
+    omega (arith, first, chan_at_place moves m.chan i d sorted.1 sorted.0 low (omega arith))
 
 -- each channel has a move: that at a place is the next channel's
 pub whole_row : (moves : List Move) (channels i : ℕ) (m : Move) → IsStrictlySorted (λ x. x.chan) moves

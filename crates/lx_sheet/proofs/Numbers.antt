@@ -1,7 +1,8 @@
 -- Lists with the same numbers.
 use Rattle.lx_sheet.proofs.Imports.{◌≡◌, ℕ, ◌<◌, ◌≤◌, Bool, true, false, cond, List, [], ◌∷◌, length, map, filter, Some, None, refl, ◌∙◌, sym, ap}
-use Rattle.lx_sheet.proofs.Imports.{Option, is_some, option_map, nat_le, nat_lt, ◌==◌, AllByRecursion, false≢true, length-map, find_mapped, shorter}
-use Rattle.lx_sheet.proofs.Imports.{IsStrictlySorted, entry_at, entries_below, entries_above, entries_up_to, count_under}
+use Rattle.lx_sheet.proofs.Imports.{◌+◌, arith, length-take, up_to_there, StandsAt, Option, is_some, option_map, nat_le, nat_lt, ◌==◌, AllByRecursion}
+use Rattle.lx_sheet.proofs.Imports.{false≢true, length-map, find_mapped, shorter, IsStrictlySorted, entry_at, entries_below, entries_above}
+use Rattle.lx_sheet.proofs.Imports.{entries_up_to, count_under}
 
 -- how many of the numbers are up to this one
 abbrev pub count_up_to : ℕ → List ℕ → ℕ
@@ -27,6 +28,12 @@ count_within n numbers = shorter (λ m. nat_le m n) numbers
 
 pub count_under_within : (n : ℕ) (numbers : List ℕ) → count_under n numbers ≤ length numbers
 count_under_within n numbers = shorter (λ m. nat_lt m n) numbers
+
+-- up to a number that stands at a place there are that many and one
+pub count_there : {A : Type 0} {key : A → ℕ} {n at : ℕ} {xs : List A} → IsStrictlySorted key xs → StandsAt key n xs at
+    → at + 1 ≡ length (entries_up_to key n xs)
+count_there {A} {key} {n} {at} {xs} sorted stands =
+    omega (arith, ap length (up_to_there key n xs at sorted stands), length-take (at + 1) xs, stands.within)
 
 all_numbers : {A : Type 0} (P : ℕ → Type 0) (key : A → ℕ) (xs : List A) → AllByRecursion P (map key xs) ≡ AllByRecursion (λ x. P (key x)) xs
 all_numbers P key [] = refl
@@ -66,7 +73,7 @@ pub same_numbers : {A B : Type 0} (key : A → ℕ) (other : B → ℕ) (n : ℕ
 same_numbers key other n xs ys same = sym (is_some_mapped key (entry_at key n xs)) ∙ ap is_some (number_at key other xs ys same n)
     ∙ is_some_mapped other (entry_at other n ys)
 
-none_of : {A : Type 0} (o : Option A) → is_some o ≡ false → o ≡ None
+pub none_of : {A : Type 0} (o : Option A) → is_some o ≡ false → o ≡ None
 none_of None none = refl
 none_of (Some x) none = absurd (false≢true (sym none))
 

@@ -1,6 +1,6 @@
 -- What is no channel of the show is at 0.
-use Rattle.lx_sheet.proofs.Imports.{◌≡◌, ℕ, ◌<◌, List, Some, None, refl, ◌∙◌, ap, zero, suc, arith, Option, IfSome, reverse, nat_le, ◌==◌}
-use Rattle.lx_sheet.proofs.Imports.{◌&&◌, option_map_or, Move, Cue, Show, Valid, ValidCue, decides, level_in, move_in, tracked, Place, level_by, rows_of}
+use Rattle.lx_sheet.proofs.Imports.{◌≡◌, ℕ, ◌<◌, List, Some, None, refl, ◌∙◌, ap, zero, suc, arith, Option, IfSome, reverse, nat_le, ◌==◌, ◌&&◌}
+use Rattle.lx_sheet.proofs.Imports.{option_map_or, Move, Cue, Show, Valid, ValidCue, decides, level_in, move_in, tracked, Place, level_by, rows_of}
 use Rattle.lx_sheet.proofs.Imports.{row_at_place, cue_level, last_value, IsStrictlySorted, map, eq_below, all_reverse, each, find_none, found_has}
 use Rattle.lx_sheet.proofs.Cells.{cell_past}
 use Rattle.lx_sheet.proofs.Numbers.{count_up_to}

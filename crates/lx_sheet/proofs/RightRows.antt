@@ -1,15 +1,13 @@
 -- Rows that hold the levels after the cues up to theirs, and the columns of a sheet that stands for a show.
-use Rattle.lx_sheet.proofs.Imports.{◌≡◌, ℕ, zero, suc, ◌+◌, ◌<◌, ◌≤◌, List, [], ◌∷◌, length, get_or, take}
-use Rattle.lx_sheet.proofs.Imports.{map, ◌∙◌, sym, ap, subst, arith, inl, inr, Option, Some, None, IfSome, nat_le}
-use Rattle.lx_sheet.proofs.Imports.{option_map_or, AllByRecursion, cases_lt, length-map, All-from_recursion, IsStrictlySorted, Cue}
-use Rattle.lx_sheet.proofs.Imports.{Show, decides, tracked, le_false, le_true, lt_false, lt_true, each, filter_none, find_both_last}
-use Rattle.lx_sheet.proofs.Imports.{entries_up_to, Place, Sheet, level_by, level_of, rows_of, cue_level, last_value, count_under, IsRight, RowsFollow}
-use Rattle.lx_sheet.proofs.Imports.{StandsFrom, cue_numbers}
+use Rattle.lx_sheet.proofs.Imports.{◌≡◌, ℕ, zero, suc, ◌+◌, ◌<◌, ◌≤◌, List, [], ◌∷◌, length, get_or, take, Marks, numbers_of, map, ◌∙◌, sym, ap}
+use Rattle.lx_sheet.proofs.Imports.{get_or_default, refl, stands_where, subst, arith, inl, inr, Option, Some, None, IfSome, nat_le, option_map_or}
+use Rattle.lx_sheet.proofs.Imports.{AllByRecursion, cases_lt, length-map, All-from_recursion, IsStrictlySorted, Cue, Show, decides, tracked, lt_false}
+use Rattle.lx_sheet.proofs.Imports.{lt_true, each, filter_none, find_both_last, Place, Sheet, level_by, level_of, rows_of, cue_level, last_value}
+use Rattle.lx_sheet.proofs.Imports.{count_under, IsRight, RowsFollow, StandsFrom, cue_numbers, cases_eq}
 use Rattle.lx_sheet.specs.After.{level_after}
-use Rattle.lx_sheet.proofs.Imports.{cases_eq}
 use Rattle.std.specs.Prelude.{◌⊎◌}
-use Rattle.lx_sheet.proofs.Numbers.{count_up_to, count_within, count_under_within, same_length, sorted_alike, sorted_numbers}
-use Rattle.lx_sheet.proofs.Rows.{up_to_is_front, level_of_block, numbers-rows_of}
+use Rattle.lx_sheet.proofs.Numbers.{count_there, count_up_to, count_within, count_under_within, same_length, sorted_alike, sorted_numbers}
+use Rattle.lx_sheet.proofs.Rows.{up_to_is_front, level_of_block, numbers-rows_of, sheet_of}
 use Rattle.lx_sheet.proofs.LevelsAfter.{level_after-nil}
 
 -- the tracked level follows from the cues up to the number
@@ -26,13 +24,10 @@ tracked_is show n c sorted =
 -- up to the number at a place there are that many and one
 count_at : (numbers : List ℕ) (k : ℕ) → IsStrictlySorted (λ n. n) numbers → k < length numbers
     → count_up_to (get_or numbers k 0) numbers ≡ suc k
-count_at [] k sorted within = absurd (omega arith)
-count_at (m ∷ ms) zero sorted within =
-    let none : entries_up_to (λ x. x) m ms ≡ [] = filter_none _ ms (each _ _ ms (λ y h. le_false y m h) sorted.0) in
-    rw (le_true m m (omega arith)) (ap (λ xs. suc (length xs)) none)
-count_at (m ∷ ms) (suc k) sorted within =
-    let above : m < get_or ms k 0 = All-from_recursion (λ y. m < y) ms sorted.0 k 0 (omega arith) in
-    rw (le_true m (get_or ms k 0) (omega (arith, above))) (ap suc (count_at ms k sorted.1 (omega arith)))
+count_at numbers k sorted within =
+    let n : ℕ = get_or numbers k 0 in
+    let stands = stands_where (λ m. m) n numbers k n sorted within (get_or_default numbers k 0 n within) refl in
+    omega (arith, count_there sorted stands)
 
 none_under : (end m : ℕ) (ms : List ℕ) → AllByRecursion (λ y. m < y) ms → end ≤ m → count_under end ms ≡ 0
 none_under end m ms above high = ap length (filter_none _ ms (each _ _ ms (λ y h. lt_false y end (omega arith)) above))
@@ -56,18 +51,11 @@ under end (m ∷ ms) (suc k) sorted within = elim (cases_lt m end) [
 
 pub reached : (end : ℕ) (numbers : List ℕ) (k : ℕ) → IsStrictlySorted (λ n. n) numbers → count_under end numbers ≤ k → k < length numbers
     → end ≤ get_or numbers k 0
-reached end numbers k sorted least within = elim (under end numbers k sorted within) [
-  | inl low ↦ absurd (omega (arith, low.1))
-  | inr high ↦
-      high.0
-]
+reached end numbers k sorted least within = omega (arith, under end numbers k sorted within)
 
 not_reached : (end : ℕ) (numbers : List ℕ) (k : ℕ) → IsStrictlySorted (λ n. n) numbers → k < count_under end numbers
     → get_or numbers k 0 < end
-not_reached end numbers k sorted less = elim (under end numbers k sorted (omega (arith, count_under_within end numbers))) [
-  | inl low ↦ low.0
-  | inr high ↦ absurd (omega (arith, high.1))
-]
+not_reached end numbers k sorted less = omega (arith, under end numbers k sorted (omega (arith, count_under_within end numbers)))
 
 -- an order of a show's cues
 pub record IsOrderOf (show : Show) (order : List Place) : Type 0 where
@@ -157,11 +145,13 @@ right_on channels order cues levels from at c follows least right (suc k) past w
       (omega arith)))
 ]
 
--- a sheet that stands for a show has its cues in order
-pub order_of : {show : Show} (channels : ℕ) {order : List Place} (levels : List ℕ) → IsStrictlySorted (λ p. p.cue) order
-    → map (λ r. r.number) (rows_of channels order levels) ≡ cue_numbers show → IsOrderOf show order
-order_of {show} channels {order} levels sorted same =
-    let numbers : map (λ (p : Place). p.cue) order ≡ cue_numbers show = sym (numbers-rows_of channels order levels) ∙ same in record {
+-- a sheet that has a show's numbers has its cues in order
+pub order_of : (show : Show) {channels : ℕ} {order : List Place} (levels : List ℕ) (marks : Marks) {sheet : Sheet}
+    → sheet_of channels order levels marks ≡ sheet → IsStrictlySorted (λ p. p.cue) order → numbers_of sheet ≡ cue_numbers show
+    → IsOrderOf show order
+order_of show {channels} {order} levels marks seen sorted same =
+    let numbers : map (λ (p : Place). p.cue) order ≡ cue_numbers show =
+    sym (numbers-rows_of channels order levels) ∙ ap numbers_of seen ∙ same in record {
       sorted = sorted;
       cues_sorted = sorted_alike (λ (p : Place). p.cue) (λ (cue : Cue). cue.number) order show.cues numbers sorted;
       numbers = numbers;

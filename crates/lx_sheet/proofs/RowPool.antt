@@ -1,12 +1,10 @@
 -- The cues' own rows and the free ones: apart, and together all rows of the block, whatever comes or goes.
-use Rattle.lx_sheet.proofs.Imports.{◌≡◌, ◌≢◌, ℕ, zero, suc, ◌+◌, ◌<◌, ◌≤◌, false, List, [], ◌∷◌, ◌++◌, length, get_or}
-use Rattle.lx_sheet.proofs.Imports.{take, drop, ◌∙◌, sym, ap, subst, inl, inr, arith, insert, remove, ◌==◌, range_with_len}
-use Rattle.lx_sheet.proofs.Imports.{cases_order, false≢true, append_assoc, map-append, take-map, drop-map, length-map, length-append, get_or-map}
-use Rattle.lx_sheet.proofs.Imports.{get_or_append_left, length-range_with_len, get_or-range_with_len, IsPermutation-sym, IsPermutation-trans}
-use Rattle.lx_sheet.proofs.Imports.{IsPermutation-to_front, IsPermutation-append_left, IsPermutation-insert}
-use Rattle.lx_sheet.proofs.Imports.{IsPermutation-remove, All-permutation, length_permutation, CUES, eq_true}
-use Rattle.lx_sheet.proofs.Imports.{eq_below, Place, AreApart, IsBlock, IsPool, own_rows}
-use Rattle.lx_sheet.proofs.Imports.{row_at_place}
+use Rattle.lx_sheet.proofs.Imports.{◌≡◌, ◌≢◌, ℕ, zero, suc, ◌+◌, ◌<◌, ◌≤◌, false, List, [], ◌∷◌, ◌++◌, length, get_or, ◌∙◌, sym, ap, inl, inr, arith}
+use Rattle.lx_sheet.proofs.Imports.{insert, remove, ◌==◌, range_with_len, cases_order, false≢true, append_assoc, map-append, take-map, drop-map}
+use Rattle.lx_sheet.proofs.Imports.{length-map, length-append, get_or-map, get_or_append_left, length-range_with_len, get_or-range_with_len}
+use Rattle.lx_sheet.proofs.Imports.{IsPermutation-sym, IsPermutation-trans, IsPermutation-to_front, IsPermutation-append_left, IsPermutation-insert}
+use Rattle.lx_sheet.proofs.Imports.{IsPermutation-remove, All-permutation, length_permutation, CUES, eq_true, eq_below, Place, AreApart, IsBlock}
+use Rattle.lx_sheet.proofs.Imports.{IsPool, own_rows, row_at_place}
 use Rattle.std.specs.List.Sorted.{IsPermutation}
 use Rattle.std.proofs.lemmas.Bool.Decides.{nat_tests}
 use Rattle.std.proofs.lemmas.Map.Keys.{apart_from_distinct, IsDistinct-from_apart, IsDistinct-IsPermutation}
@@ -37,61 +35,45 @@ rows_differ {order = order} i k block low high other same =
       ]
     ]
 
--- what stands in front is apart too
-pub front_apart : (xs ys : List ℕ) → AreApart (xs ++ ys) → AreApart xs
-front_apart xs ys apart =
-    let long : length (xs ++ ys) ≡ length xs + length ys = length-append xs ys in
-    record {
-      distinct = IsDistinct-from_apart (λ a b. a == b) xs (λ i j d less within.
-          let all : (get_or (xs ++ ys) i d == get_or (xs ++ ys) j d) ≡ false =
-          apart_from_distinct (λ a b. a == b) (xs ++ ys) i j d apart.distinct less (omega (arith, long)) in
-          ap (λ a. a == get_or xs j d) (sym (get_or_append_left xs ys d i (omega arith)))
-          ∙ ap (λ b. get_or (xs ++ ys) i d == b) (sym (get_or_append_left xs ys d j within)) ∙ all);
-      within = λ k d within. subst (λ r. r < CUES) (get_or_append_left xs ys d k within) (apart.within k d (omega (arith, long)));
-    }
-
+-- the cues' own rows are apart too
 pub own_apart : {order : List Place} {free : List ℕ} → IsPool order free → AreApart (own_rows order)
-own_apart {order} {free} pool = front_apart (own_rows order) free pool.apart
+own_apart {order} {free} pool =
+    let own : List ℕ = own_rows order in
+    let long : length (own ++ free) ≡ length own + length free = length-append own free in
+    record {
+      distinct = IsDistinct-from_apart (λ a b. a == b) own (λ i j d less within.
+          rw (← get_or_append_left own free d i (omega arith), ← get_or_append_left own free d j within)
+          (apart_from_distinct (λ a b. a == b) (own ++ free) i j d pool.apart.distinct less (omega (arith, long))));
+      within = λ k d within. rw (← get_or_append_left own free d k within) (pool.apart.within k d (omega (arith, long)));
+    }
 
 -- in another order rows stay apart
 flips : (a b : ℕ) → (a == b) ≡ (b == a)
 flips a b = grind (arith, nat_tests)
 
-moved : (xs ys : List ℕ) → IsPermutation xs ys → AreApart xs → AreApart ys
-moved xs ys same apart = record {
-  distinct = IsDistinct-IsPermutation (λ a b. a == b) flips xs ys same apart.distinct;
-  within = All-permutation (λ r. r < CUES) xs ys same apart.within;
-}
-
 pub pool_moved : (old new : List Place) (free spare : List ℕ) → IsPermutation (own_rows old ++ free) (own_rows new ++ spare)
     → IsPool old free → IsPool new spare
 pool_moved old new free spare same pool = record {
-  apart = moved (own_rows old ++ free) (own_rows new ++ spare) same pool.apart;
+  apart = record {
+    distinct = IsDistinct-IsPermutation (λ a b. a == b) flips (own_rows old ++ free) (own_rows new ++ spare) same pool.apart.distinct;
+    within = All-permutation (λ r. r < CUES) (own_rows old ++ free) (own_rows new ++ spare) same pool.apart.within;
+  };
   all = length_permutation (own_rows old ++ free) (own_rows new ++ spare) same ∙ pool.all;
 }
 
 pub own-insert : (order : List Place) (at : ℕ) (p : Place) → own_rows (insert order at p) ≡ insert (own_rows order) at p.row
-own-insert order at p =
-    map-append (λ (x : Place). x.row) (take at order) (p ∷ drop at order)
-    ∙ ap (λ (xs : List ℕ). xs ++ p.row ∷ own_rows (drop at order)) (sym (take-map (λ (x : Place). x.row) at order))
-    ∙ ap (λ (ys : List ℕ). take at (own_rows order) ++ p.row ∷ ys) (sym (drop-map (λ (x : Place). x.row) at order))
+own-insert order at p = simp (map-append, take-map, drop-map)
 
 pub own-remove : (order : List Place) (at : ℕ) → own_rows (remove order at) ≡ remove (own_rows order) at
-own-remove order at =
-    map-append (λ (x : Place). x.row) (take at order) (drop (suc at) order)
-    ∙ ap (λ (xs : List ℕ). xs ++ own_rows (drop (suc at) order)) (sym (take-map (λ (x : Place). x.row) at order))
-    ∙ ap (λ (ys : List ℕ). take at (own_rows order) ++ ys) (sym (drop-map (λ (x : Place). x.row) (suc at) order))
+own-remove order at = simp (map-append, take-map, drop-map)
 
 -- the last free row becomes a cue's own
-rows_taken : (rows free : List ℕ) (at row : ℕ) → IsPermutation (rows ++ (free ++ row ∷ [])) (insert rows at row ++ free)
-rows_taken rows free at row = rw (← append_assoc rows free (row ∷ []))
-    (IsPermutation-trans _ (row ∷ (rows ++ free)) _ (IsPermutation-to_front (rows ++ free) row)
-    (IsPermutation-append_left free (row ∷ rows) (insert rows at row) (IsPermutation-insert rows at row)))
-
 pub pool_taken : (order : List Place) (free : List ℕ) (at : ℕ) (p : Place) → IsPool order (free ++ p.row ∷ [])
     → IsPool (insert order at p) free
 pool_taken order free at p = pool_moved order (insert order at p) (free ++ p.row ∷ []) free
-    (rw (own-insert order at p) (rows_taken (own_rows order) free at p.row))
+    (rw (own-insert order at p, ← append_assoc (own_rows order) free (p.row ∷ []))
+    (IsPermutation-trans _ (p.row ∷ (own_rows order ++ free)) _ (IsPermutation-to_front (own_rows order ++ free) p.row)
+    (IsPermutation-append_left free (p.row ∷ own_rows order) _ (IsPermutation-insert (own_rows order) at p.row))))
 
 -- a cue's own row becomes the last free one
 rows_freed : (rows free : List ℕ) (at row : ℕ) → at < length rows → row ≡ get_or rows at row
@@ -111,13 +93,11 @@ pool_freed order free at p within is = pool_moved order (remove order at) free (
 pub range_append : (a m n : ℕ) → range_with_len a m ++ range_with_len (a + m) n ≡ range_with_len a (m + n)
 range_append a zero n =
     let e : a + 0 ≡ a = omega arith in
-    let f : n ≡ 0 + n = omega arith in
-    ap (λ k. range_with_len k n) e ∙ ap (range_with_len a) f
+    let f : 0 + n ≡ n = omega arith in rw (e, f)
 range_append a (suc m) n =
     let e : a + suc m ≡ a + 1 + m = omega arith in
     let f : suc m + n ≡ suc (m + n) = omega arith in
-    ap (λ k. a ∷ (range_with_len (a + 1) m ++ range_with_len k n)) e ∙ ap (λ xs. a ∷ xs) (range_append (a + 1) m n)
-    ∙ ap (range_with_len a) (sym f)
+    rw (e, f) (ap (λ xs. a ∷ xs) (range_append (a + 1) m n))
 
 pub range_apart : (n : ℕ) → n ≤ CUES → AreApart (range_with_len 0 n)
 range_apart n few =

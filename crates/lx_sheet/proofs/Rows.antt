@@ -1,8 +1,8 @@
 -- The rows of cues, by their places in the order, and the level that they give at a number.
-use Rattle.lx_sheet.proofs.Imports.{◌≡◌, ℕ, zero, suc, ◌-◌, ◌<◌, ◌≤◌, List, [], ◌∷◌, length}
-use Rattle.lx_sheet.proofs.Imports.{take, map, refl, ◌∙◌, sym, ap, arith, inl, inr, Option, find, reverse, nat_le, slice_get, option_map_or}
-use Rattle.lx_sheet.proofs.Imports.{cases_lt, length-map, IsStrictlySorted, entries_up_to, Place, Marks, Row, Sheet, level_in_row, marks_of}
-use Rattle.lx_sheet.proofs.Imports.{rows_of, cue_level, last_value, le_false, le_true, each, filter_none, find_last}
+use Rattle.lx_sheet.proofs.Imports.{◌≡◌, ℕ, zero, suc, ◌-◌, ◌<◌, ◌≤◌, List, [], ◌∷◌, length, take, map, refl, ◌∙◌, sym, ap, arith, inl, inr, Option}
+use Rattle.lx_sheet.proofs.Imports.{find, reverse, nat_le, slice_get, option_map_or, cases_lt, length-map, IsStrictlySorted, entries_up_to, Place}
+use Rattle.lx_sheet.proofs.Imports.{Marks, Row, Sheet, level_in_row, marks_of, rows_of, cue_level, last_value, le_false, le_true, each, filter_none}
+use Rattle.lx_sheet.proofs.Imports.{find_last}
 use Rattle.lx_sheet.proofs.Numbers.{count_up_to, count_up_to-map, count_within, sorted_alike}
 use Rattle.lx_sheet.specs.Rows.{level_by}
 use Rattle.lx_sheet.specs.Block.{cell}
@@ -20,18 +20,17 @@ up_to_is_front {A} key n (x ∷ xs) sorted =
       | inr within ↦ rw (le_true (key x) n within) (ap (λ ys. x ∷ ys) (up_to_is_front key n xs sorted.1))
     ]
 
-pub slice_get-take : {A : Type 0} (xs : List A) (k n : ℕ) → k < n → slice_get (take n xs) k ≡ slice_get xs k
-slice_get-take xs k zero less = absurd (omega arith)
-slice_get-take [] k (suc n) less = refl
-slice_get-take (x ∷ xs) zero (suc n) less = refl
-slice_get-take (x ∷ xs) (suc k) (suc n) less = slice_get-take xs k n (omega arith)
+slice_get-take : {A : Type 0} (xs : List A) (k : ℕ) → slice_get (take (suc k) xs) k ≡ slice_get xs k
+slice_get-take [] k = refl
+slice_get-take (x ∷ xs) zero = refl
+slice_get-take (x ∷ xs) (suc k) = slice_get-take xs k
 
 last_of_front : {A : Type 0} (f : A → ℕ) (xs : List A) (j : ℕ)
     → option_map_or f (slice_get (take j xs) (j - 1)) 0 ≡ last_value j (λ k. option_map_or f (slice_get xs k) 0)
 last_of_front f xs zero = refl
 last_of_front {A} f xs (suc k) =
     let e : suc k - 1 ≡ k = omega arith in
-    ap (λ (o : Option A). option_map_or f o 0) (ap (slice_get (take (suc k) xs)) e ∙ slice_get-take xs k (suc k) (omega arith))
+    ap (λ (o : Option A). option_map_or f o 0) (ap (slice_get (take (suc k) xs)) e ∙ slice_get-take xs k)
 
 -- the last entry up to a number, by its place
 pub last_up_to : {A : Type 0} (key f : A → ℕ) (n : ℕ) (xs : List A) → IsStrictlySorted key xs
@@ -45,11 +44,6 @@ pub numbers-rows_of : (channels : ℕ) (order : List Place) (levels : List ℕ)
     → map (λ r. r.number) (rows_of channels order levels) ≡ map (λ p. p.cue) order
 numbers-rows_of channels [] levels = refl
 numbers-rows_of channels (p ∷ order) levels = ap (λ ns. p.cue ∷ ns) (numbers-rows_of channels order levels)
-
-IsStrictlySorted-rows_of : (channels : ℕ) (order : List Place) (levels : List ℕ) → IsStrictlySorted (λ p. p.cue) order
-    → IsStrictlySorted (λ r. r.number) (rows_of channels order levels)
-IsStrictlySorted-rows_of channels order levels = sorted_alike (λ (p : Place). p.cue) (λ (r : Row). r.number) order
-    (rows_of channels order levels) (sym (numbers-rows_of channels order levels))
 
 -- a level in the row of the cue at a place
 level_at_place : (channels : ℕ) (order : List Place) (levels : List ℕ) (k c : ℕ) → k < length order
@@ -78,6 +72,6 @@ level_of_block channels order levels n c sorted =
     let numbers : List ℕ = map (λ (p : Place). p.cue) order in
     let within : count_up_to n numbers ≤ length order = omega (arith, count_within n numbers, length-map order (λ (p : Place). p.cue)) in
     last_up_to (λ (r : Row). r.number) (λ (r : Row). level_in_row r c) n (rows_of channels order levels)
-    (IsStrictlySorted-rows_of channels order levels sorted)
+    (sorted_alike (λ (p : Place). p.cue) (λ (r : Row). r.number) order _ (sym (numbers-rows_of channels order levels)) sorted)
     ∙ rw (numbers-rows_of channels order levels)
     (last_value_same (count_up_to n numbers) _ _ (λ k less. level_at_place channels order levels k c (omega (arith, within, less))))

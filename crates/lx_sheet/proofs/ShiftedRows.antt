@@ -1,11 +1,11 @@
 -- Rows whose cues stand at other places of the order once a cue came, went or was replaced: they follow from one another as before.
-use Rattle.lx_sheet.proofs.Imports.{◌≡◌, ℕ, ◌+◌, ◌-◌, ◌<◌, ◌≤◌, List, ◌++◌, length, get_or, take, drop, map, Some, None, refl, ◌∙◌, sym, ap}
-use Rattle.lx_sheet.proofs.Imports.{inl, inr, arith, Option, cases_eq, cases_lt, get_or-drop, get_or-take, get_or_default, take-take, take-map, drop-map}
+use Rattle.lx_sheet.proofs.Imports.{◌≡◌, ℕ, ◌+◌, ◌-◌, ◌<◌, ◌≤◌, List, ◌++◌, length, get_or, take, drop, map, Some, None, refl, ◌∙◌, sym, ap, inl, inr}
+use Rattle.lx_sheet.proofs.Imports.{arith, Option, cases_eq, cases_lt, get_or-drop, get_or-take, get_or_default, take-take, take-map, drop-map}
 use Rattle.lx_sheet.proofs.Imports.{length-append, length-map, length-take-le, map-append, append_assoc, take_at, drop_at, Cue, Show}
 use Rattle.lx_sheet.proofs.Imports.{IsStrictlySorted, entry_at, entries_below, entries_above, taken_out, new_cue, eq_true, eq_other, none_differs}
 use Rattle.lx_sheet.proofs.Imports.{below_and_above, split_there, Place, Marks, AreMarked, row_at_place, cell, IsMarkedFor, has_mark, level_after}
-use Rattle.lx_sheet.proofs.Imports.{tracked_on, IsRight, RowsFollow, FillsRows, IsPassed, IsLeft}
-use Rattle.lx_sheet.proofs.Imports.{[], ◌∷◌, option_map, with_cue, cue_of, slice_get-get_or, StandsAt}
+use Rattle.lx_sheet.proofs.Imports.{tracked_on, IsRight, RowsFollow, FillsRows, IsPassed, IsLeft, [], ◌∷◌, option_map, with_cue, cue_of}
+use Rattle.lx_sheet.proofs.Imports.{slice_get-get_or, StandsAt}
 use Rattle.std.specs.Option.{option_to_list}
 use Rattle.lx_sheet.proofs.LevelsAfter.{level_after-take}
 use Rattle.lx_sheet.proofs.MarkedRows.{AtPlaces, IsRemarked}
@@ -25,20 +25,12 @@ behind front part back n long = rw (← append_assoc front part back) (drop_at (
 
 swapped : {A : Type 0} (front x y back : List A) {old new : List A} {at a b : ℕ} → old ≡ front ++ (x ++ back) → new ≡ front ++ (y ++ back)
     → length front ≡ at → at + length x ≡ a → at + length y ≡ b → IsSwapped old new at a b
-swapped front x y back {old} {new} {at} {a} {b} was now long wide now_wide = record {
+swapped {A} front x y back {old} {new} {at} {a} {b} was now long wide now_wide = record {
   front = ap (take at) was ∙ take_at front (x ++ back) at long ∙ sym (ap (take at) now ∙ take_at front (y ++ back) at long);
   back = ap (drop a) was ∙ behind front x back a (omega arith) ∙ sym (ap (drop b) now ∙ behind front y back b (omega arith));
   order = omega arith;
-  within = omega (arith, ap length was, length-append front (x ++ back), length-append x back);
-  long = omega (
-    arith,
-    ap length was,
-    length-append front (x ++ back),
-    length-append x back,
-    ap length now,
-    length-append front (y ++ back),
-    length-append y back,
-  );
+  within = omega (arith, ap length was, length-append {A = A});
+  long = omega (arith, ap length was, ap length now, length-append {A = A});
 }
 
 swapped-map : {A B : Type 0} (f : A → B) {old new : List A} {at a b : ℕ} → IsSwapped old new at a b
@@ -53,8 +45,7 @@ swapped-map f {old} {new} {at} {a} {b} s = record {
 
 in_front : {A : Type 0} {old new : List A} {at a b : ℕ} → IsSwapped old new at a b → (k : ℕ) (d : A) → k < at
     → get_or new k d ≡ get_or old k d
-in_front {A} {old} {new} {at} s k d less = sym (get_or-take at new k d less) ∙ ap (λ (xs : List A). get_or xs k d) (sym s.front)
-    ∙ get_or-take at old k d less
+in_front {A} {old} {new} {at} s k d less = rw (← get_or-take at new k d less, ← s.front) (get_or-take at old k d less)
 
 at_back : {A : Type 0} {old new : List A} {at a b : ℕ} → IsSwapped old new at a b → (j k : ℕ) (d : A) → b ≤ k → j + b ≡ k + a
     → get_or new k d ≡ get_or old j d
@@ -225,14 +216,6 @@ placed_there before cue number = ap (λ m. entries_below (λ (c : Cue). c.number
 pub one_more : {before show : Show} {old : List Place} {n : ℕ} (cue : Cue) → IsOrderOf before old → cue.number ≡ n → cue_of before n ≡ None
     → show ≡ with_cue before cue → length show.cues ≡ length old + 1
 one_more {before} {n = n} cue is number absent now =
-    let front : List Cue = entries_below (λ c. c.number) n before.cues in
-    let back : List Cue = entries_above (λ c. c.number) n before.cues in
-    let was : before.cues ≡ front ++ back = cut_at (λ (c : Cue). c.number) n before.cues None is.cues_sorted absent in
-    omega (
-      arith,
-      order_length is,
-      ap length was,
-      length-append front back,
-      ap (λ (s : Show). length s.cues) now ∙ ap length (placed_there before cue number),
-      length-append front (cue ∷ back),
-    )
+    let was = cut_at (λ (c : Cue). c.number) n before.cues None is.cues_sorted absent in
+    let is_now = ap (λ (s : Show). length s.cues) now ∙ ap length (placed_there before cue number) in
+    omega (arith, order_length is, ap length was, is_now, length-append {A = Cue})

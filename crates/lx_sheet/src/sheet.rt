@@ -1,6 +1,6 @@
 //! A sheet, and what it tells.
 
-ghost use Rattle.std.specs.Prelude.{◌≡◌, ℕ, ◌+◌, ◌<◌, None, IfOk, IfSome, length, option_map, slice_index};
+ghost use Rattle.std.specs.Prelude.{◌≡◌, ℕ, ◌+◌, ◌<◌, ◌≤◌, None, IfOk, IfSome, length, option_map, slice_index};
 ghost use Rattle.std.specs.Option.{option_copied};
 ghost use Rattle.lx_io.specs.Causes.{HasCause};
 ghost use Rattle.lx_spec.specs.SortedList.{IsStrictlySorted};
@@ -169,7 +169,8 @@ impl Sheet {
 /// How many of the places are up to the number. It is looked for first at the place that was found last.
 fn count_near(order: &[Place], n: CueNo, near: &mut usize) -> usize
     requires { IsStrictlySorted (λ p. p.cue) order.now }
-    ensures { result ≡ length (entries_up_to (λ p. p.cue) n order.now) }
+    ensures count { result ≡ length (entries_up_to (λ p. p.cue) n order.now) }
+    ensures within { result ≤ length order.now }
 {
     let before = *near;
     if before < order.len() && order[before].cue.get() == n.get() {

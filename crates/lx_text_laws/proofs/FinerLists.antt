@@ -1,4 +1,4 @@
--- What is asked of a list whose entries are mapped, and sorted lists under a map that keeps the order of their numbers.
+-- What is asked of a list whose entries are mapped, and sorted numbers that are ten times as great.
 use Rattle.lx_text_laws.proofs.Imports.{◌≡◌, ℕ, ◌+◌, ◌-◌, ◌*◌, Bool, true, false, cond, not, ◌||◌, ◌==◌, nat_lt, Option, Some, None, List, [], ◌∷◌}
 use Rattle.lx_text_laws.proofs.Imports.{◌++◌, map, reverse, drop, filter, filter_map, fold, option_map, position, count_by, refl, list_any}
 use Rattle.lx_text_laws.proofs.Imports.{cons_option, last_or, after_last, prefix_len, arith, ap, ◌∙◌, sym, nat_tests, map-append, drop-map}
@@ -44,20 +44,6 @@ module _ {A B : Type 0} (f : A → B) where
   filter_map-then h (x ∷ xs) = elim (h x) as (λ o. cons_option (option_map f o) (filter_map (λ y. option_map f (h y)) xs)
       ≡ map f (cons_option o (filter_map h xs))) [ None ↦ filter_map-then h xs | Some y ↦ ap (λ ys. f y ∷ ys) (filter_map-then h xs) ]
 
-  -- a map that keeps the order of the numbers keeps the places
-  module _ (key : A → ℕ) (to : B → ℕ) (order : (a b : A) → nat_lt (to (f a)) (to (f b)) ≡ nat_lt (key a) (key b)) where
-    pub placed-mapped : (x : A) (xs : List A) → placed to (f x) (map f xs) ≡ map f (placed key x xs)
-    placed-mapped x xs =
-        (λ j. filter-mapped (λ y. nat_lt (to y) (to (f x))) xs j ++ f x ∷ filter-mapped (λ y. nat_lt (to (f x)) (to y)) xs j)
-        ∙ (λ j. map f (filter (λ y. order y x j) xs) ++ f x ∷ map f (filter (λ y. order x y j) xs))
-        ∙ sym (map-append f (filter (λ y. nat_lt (key y) (key x)) xs) (x ∷ filter (λ y. nat_lt (key x) (key y)) xs))
-
-    pub all_placed-mapped : (start xs : List A) → fold (λ ys y. placed to y ys) (map f start) (map f xs)
-        ≡ map f (fold (λ ys y. placed key y ys) start xs)
-    all_placed-mapped start [] = refl
-    all_placed-mapped start (x ∷ xs) = ap (λ s. fold (λ ys y. placed to y ys) s (map f xs)) (placed-mapped x start)
-        ∙ all_placed-mapped (placed key x start) xs
-
 tenfold-lt : (a b : ℕ) → nat_lt (10 * a) (10 * b) ≡ nat_lt a b
 tenfold-lt a b = grind (arith, nat_tests)
 
@@ -65,7 +51,17 @@ pub tenfold-eq : (a b : ℕ) → (10 * a == 10 * b) ≡ (a == b)
 tenfold-eq a b = grind (arith, nat_tests)
 
 pub placed-tenfold : (n : ℕ) (ns : List ℕ) → placed (λ m. m) (10 * n) (map (λ m. 10 * m) ns) ≡ map (λ m. 10 * m) (placed (λ m. m) n ns)
-placed-tenfold n ns = placed-mapped (λ m. 10 * m) (λ m. m) (λ m. m) tenfold-lt n ns
+placed-tenfold n ns =
+    let f = λ (m : ℕ). 10 * m in
+    (λ j. filter-mapped f (λ m. nat_lt m (10 * n)) ns j ++ 10 * n ∷ filter-mapped f (λ m. nat_lt (10 * n) m) ns j)
+    ∙ (λ j. map f (filter (λ m. tenfold-lt m n j) ns) ++ 10 * n ∷ map f (filter (λ m. tenfold-lt n m j) ns))
+    ∙ sym (map-append f (filter (λ m. nat_lt m n) ns) (n ∷ filter (λ m. nat_lt n m) ns))
+
+all_placed-tenfold : (start ns : List ℕ) → fold (λ ys n. placed (λ m. m) n ys) (map (λ m. 10 * m) start) (map (λ m. 10 * m) ns)
+    ≡ map (λ m. 10 * m) (fold (λ ys n. placed (λ m. m) n ys) start ns)
+all_placed-tenfold start [] = refl
+all_placed-tenfold start (n ∷ ns) = ap (λ s. fold (λ ys n. placed (λ m. m) n ys) s (map (λ m. 10 * m) ns)) (placed-tenfold n start)
+    ∙ all_placed-tenfold (placed (λ m. m) n start) ns
 
 pub last_of_each-tenfold : (ns : List ℕ) → last_of_each (λ m. m) (map (λ m. 10 * m) ns) ≡ map (λ m. 10 * m) (last_of_each (λ m. m) ns)
-last_of_each-tenfold ns = all_placed-mapped (λ m. 10 * m) (λ m. m) (λ m. m) tenfold-lt [] ns
+last_of_each-tenfold ns = all_placed-tenfold [] ns

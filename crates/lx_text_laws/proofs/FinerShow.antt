@@ -1,4 +1,4 @@
--- The show of entries in finer steps is the show in finer steps.
+-- The show of entries in finer steps is the show in finer steps, so an old text is read as that show.
 use Rattle.lx_text_laws.proofs.Imports.{flat_map-map, ◌≡◌, ℕ, ◌+◌, ◌*◌, max, Bool, false, ◌==◌, Option, Some, None, List, [], ◌∷◌, map, filter, fold}
 use Rattle.lx_text_laws.proofs.Imports.{flat_map, filter_map, option_map, option_and_then, unwrap_or, position, count_by, refl, option_map_or}
 use Rattle.lx_text_laws.proofs.Imports.{list_any, after_last, last_or, ap, ◌∙◌, DEFAULT_CHANNELS, DEFAULT_TIME, Form, Moves, States, Section, InCue}
@@ -6,12 +6,12 @@ use Rattle.lx_text_laws.proofs.Imports.{Cue, Show, level_in, look_moves, from_lo
 use Rattle.lx_text_laws.proofs.Imports.{section_begun, channels_set, rows_in, levels_in, part_named, up_in, down_in, follow_in, link_in, label_in}
 use Rattle.lx_text_laws.proofs.Imports.{blocks, is_assert, is_skipped, clears_all, cue_in, group_in, sub_in, last_of_each, last_in, numbers_begun}
 use Rattle.lx_text_laws.proofs.Imports.{stands_in, each_record, label_from, part_from, moves_in, parts_from, cue_from, group_from, channels_named}
-use Rattle.lx_text_laws.proofs.Imports.{show_from, reading_from, finer_cue, finer}
+use Rattle.lx_text_laws.proofs.Imports.{show_from, reading_from, finer_cue, finer, Result, Ok, Err, IfOk, TextFault, ◌>>=◌, Limits, lines_of}
+use Rattle.lx_text_laws.proofs.Imports.{first_facts, entries, reads_under, count_read, HasOneDecimalMore, ReadsFiner}
 use mathlib.Core.List.{map-map}
 use Rattle.lx_text_laws.proofs.FinerLists.{filter-mapped, filter_map-mapped, any-mapped, count-mapped, position-mapped}
 use Rattle.lx_text_laws.proofs.FinerLists.{after_last-mapped, last-mapped, filter_map-then, tenfold-eq, last_of_each-tenfold}
-use Rattle.lx_text_laws.proofs.FinerFields.{finer_section, finer_entry}
-use Rattle.lx_text_laws.proofs.FinerLines.{finer_placed}
+use Rattle.lx_text_laws.proofs.FinerLines.{Kept, finer_section, finer_entry, finer_placed, entries-kept, count-kept}
 
 -- What doesn't look at cue numbers is the same of an entry in finer steps.
 abbrev Same : {A : Type 0} → (Entry → A) → Type 0
@@ -187,3 +187,18 @@ reading-finer form es =
     ∙ ap (by_form form) (show-finer (after_last (λ e. clears_all e.entry) es))
     ∙ form-finer form (show_from (after_last (λ e. clears_all e.entry) es)) in
     (λ j. record { show = show j; skipped = counted j; first_skipped = option_map_or (λ i. i + 1) (first j) 0 })
+
+pub old_texts : (now before : Limits) (form : Form) (bytes : List ℕ) → HasOneDecimalMore now before
+    → IfOk (reads_under before form bytes) (ReadsFiner now before form bytes)
+old_texts now before form bytes more =
+    of_entries (entries (first_facts before) (lines_of bytes)) (entries-kept now (first_facts before) (lines_of bytes) more)
+    (count-kept now (first_facts before) (lines_of bytes) more)
+  where
+    of_entries : (r : Result (List PlacedEntry) TextFault) → Kept (map finer_placed) r (entries (first_facts now) (lines_of bytes))
+        → IfOk r (λ all. count_read (first_facts now) (lines_of bytes) ≡ count_read (first_facts before) (lines_of bytes))
+        → IfOk (r >>= (λ all. Ok (reading_from form all))) (ReadsFiner now before form bytes)
+    of_entries (Ok all) is count = record {
+      reading_now = ap (λ r. r >>= (λ all. Ok (reading_from form all))) is.is ∙ ap Ok (reading-finer form all);
+      lines = count;
+    }
+    of_entries (Err fault) is count = tt

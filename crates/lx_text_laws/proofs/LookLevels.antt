@@ -1,29 +1,19 @@
 -- A text that is read as looks has the levels of its looks.
-use Rattle.lx_text_laws.proofs.Imports.{cases_Bool, cases_eq, or_right, ◌≡◌, ℕ, zero, suc, ◌+◌, ◌<◌, ◌≤◌, Bool, true, false, cond, not, ◌||◌, ◌&&◌}
-use Rattle.lx_text_laws.proofs.Imports.{◌==◌, nat_le, Option, Some, None, Result, Ok, Err, List, [], ◌∷◌, map, filter, filter_map, is_some}
-use Rattle.lx_text_laws.proofs.Imports.{option_and_then, refl, if◌then◌else◌, AllByRecursion, list_any, range_with_len, after_last, option_map_or}
-use Rattle.lx_text_laws.proofs.Imports.{arith, ap, ◌∙◌, sym, subst, eqb-true, Move, Moves, States, TextFault, ◌>>=◌, desk_limits, lines_of}
-use Rattle.lx_text_laws.proofs.Imports.{IsStrictlySorted, entry_at, Cue, Show, InRange, cue_of, move_in, level_in, tracked, PlacedEntry, cue_in}
-use Rattle.lx_text_laws.proofs.Imports.{section_begun, clears_all, first_facts, look_moves, from_looks, by_form, Reading, entries, reads}
-use Rattle.lx_text_laws.proofs.Imports.{reading_from, numbers_begun, stands_in, cue_from, show_from, inl, inr, eq_true, eq_other}
+use Rattle.lx_text_laws.proofs.Imports.{cases_Bool, or_right, ◌≡◌, ℕ, ◌<◌, Bool, true, false, cond, not, ◌||◌, ◌==◌, nat_le, Option, Some, None}
+use Rattle.lx_text_laws.proofs.Imports.{Result, Ok, Err, List, [], ◌∷◌, map, filter, filter_map, is_some, option_and_then, refl, if◌then◌else◌}
+use Rattle.lx_text_laws.proofs.Imports.{AllByRecursion, list_any, after_last, option_map_or, arith, ap, ◌∙◌, sym, subst, eqb-true, Move, Moves}
+use Rattle.lx_text_laws.proofs.Imports.{States, TextFault, ◌>>=◌, desk_limits, lines_of, IsStrictlySorted, entry_at, Cue, Show, InRange, cue_of}
+use Rattle.lx_text_laws.proofs.Imports.{move_in, level_in, tracked, PlacedEntry, cue_in, section_begun, clears_all, first_facts, look_moves}
+use Rattle.lx_text_laws.proofs.Imports.{from_looks, by_form, Reading, entries, reads, reading_from, numbers_begun, stands_in, cue_from, show_from}
+use Rattle.lx_text_laws.proofs.Imports.{inl, inr}
 use Rattle.lx_spec.specs.EditedShow.{channels_of}
 use Rattle.lx_spec.proofs.Along.{tracked_on, along, tracked-along, step_in, along-past}
-use Rattle.std.proofs.lemmas.Map.Views.{any-filter_same}
-use Rattle.lx_spec.proofs.Comparisons.{above_or_equal}
+use Rattle.lx_spec.proofs.MovesFor.{passes_among}
 use Rattle.lx_spec.proofs.SortedLists.{found_number, found_valid}
 use Rattle.lx_reader.proofs.PlacedNumbers.{IsStrictlySorted-numbers}
 use Rattle.lx_text_laws.proofs.SortedGroups.{IsStrictlySorted-map}
 
 -- The moves of a look.
-any_in_range : (a n c : ℕ) → a ≤ c → c < a + n → list_any (λ d. d == c) (range_with_len a n) ≡ true
-any_in_range a zero c low high = absurd (omega (arith, low, high))
-any_in_range a (suc n) c low high = elim (cases_eq a c) [
-  | inl is ↦ rw (eq_true a c is)
-  | inr other ↦
-      let above : a < c = above_or_equal a c low (λ is. other (sym is)) in
-      rw (eq_other a c other) (any_in_range (a + 1) n c (omega (arith, above)) (omega (arith, high)))
-]
-
 abbrev look_of : Show → (ℕ → ℕ) → Cue → Cue
 look_of show before cue = record cue { moves = look_moves show before cue }
 
@@ -42,19 +32,12 @@ move_found cue (d ∷ cs) c = elim (cases_Bool (d == c)) [
   | inr other ↦ rw other (move_found cue cs c)
 ]
 
-and_true : (a b : Bool) → b ≡ true → (a && b) ≡ a
-and_true true b is = is
-and_true false b is = refl
-
 look_move : (show : Show) (before : ℕ → ℕ) (cue : Cue) (c : ℕ) → InRange show.channels c
     → move_in (look_of show before cue) c ≡ cond (not (level_in cue c == kept before cue c)) (Some (made cue c)) None
 look_move show before cue c range =
     let changed = λ (d : ℕ). not (level_in cue d == kept before cue d) in
-    let all = channels_of show in
-    move_found cue (filter changed all) c
-    ∙ ap (λ b. cond b (Some (made cue c)) None)
-    (any-filter_same (λ d. d == c) changed (changed c) (λ d same. ap changed (eqb-true d c same)) all
-    ∙ and_true (changed c) (list_any (λ d. d == c) all) (any_in_range 1 show.channels c range.least (omega (arith, range.most))))
+    move_found cue (filter changed (channels_of show)) c
+    ∙ ap (λ b. cond b (Some (made cue c)) None) (passes_among show changed c range)
 
 abbrev by_move : Bool → Option Move → ℕ → ℕ
 by_move block o level = cond (block || is_some o) (option_map_or (λ m. m.level) o 0) level

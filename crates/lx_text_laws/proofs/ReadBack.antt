@@ -1,8 +1,7 @@
 -- What the reader answers for a text that is in memory whole, and for the canonical text of a show.
-use Rattle.lx_text_laws.proofs.Imports.{◌≡◌, ◌⊎◌, inl, inr, ℕ, zero, suc, ◌+◌, ◌<◌, ◌≤◌, Bool, true, false, Some, Result, Ok, Err, IfSome, IfOk}
-use Rattle.lx_text_laws.proofs.Imports.{IfErr, List, [], ◌∷◌, length, refl, arith, ◌==◌, cond, INPUT_BYTES, Form, Moves, TextFault, Limits}
-use Rattle.lx_text_laws.proofs.Imports.{desk_limits, Show, Valid, show_text, first_lines, Reading, reads, reads_under, HasOneDecimalMore, finer}
-use Rattle.lx_text_laws.proofs.Imports.{ReadsFiner}
+use Rattle.lx_text_laws.proofs.Imports.{ap, cut_lines, ◌≡◌, ◌⊎◌, inl, inr, ℕ, ◌+◌, ◌<◌, ◌≤◌, Some, Result, Ok, Err, IfSome, IfOk, IfErr, List, length}
+use Rattle.lx_text_laws.proofs.Imports.{refl, arith, INPUT_BYTES, Form, Moves, TextFault, Limits, desk_limits, Show, Valid, show_text, first_lines}
+use Rattle.lx_text_laws.proofs.Imports.{Reading, reads, reads_under, HasOneDecimalMore, finer, ReadsFiner}
 use Rattle.lx_io.specs.Told.{ToldBySource}
 use Rattle.lx_lex.specs.declared.lines.Lines.{Lines}
 use Rattle.lx_lex.specs.Unread.{unread}
@@ -12,16 +11,14 @@ use Rattle.lx_reader.specs.declared.fault.ShowFault.TheVariants as faults
 use Rattle.lx_reader.specs.HandedLines.{MeansFault, IsPastLimit}
 use Rattle.lx_reader.specs.Answer.{reading_of, AnswerOf}
 use Rattle.lx_text_laws.specs.ReadAs.{ComesAsReading}
-use Rattle.lx_text_laws.proofs.WholeText.{reads_back}
-use Rattle.lx_text_laws.proofs.OldTexts.{old_texts}
+use Rattle.lx_lex.proofs.FirstLines.{first_lines-longer}
+use Rattle.lx_text_laws.proofs.WholeText.{reads_back, all_lines}
+use Rattle.lx_text_laws.proofs.FinerShow.{old_texts}
 
 first_lines-within : (n : ℕ) (xs : List ℕ) → length (first_lines n xs) ≤ length xs
-first_lines-within n [] = omega arith
-first_lines-within zero (x ∷ xs) = omega arith
-first_lines-within (suc n) (x ∷ xs) =
-    let either : (b : Bool) → length (x ∷ first_lines (cond b n (suc n)) xs) ≤ length (x ∷ xs) = elim
-    [ true ↦ omega (arith, first_lines-within n xs) | false ↦ omega (arith, first_lines-within (suc n) xs) ] in
-    either (x == 10)
+first_lines-within n xs =
+    let k = n + length (cut_lines xs) in
+    omega (arith, first_lines-longer n k xs (omega arith), ap length (all_lines k xs (omega arith)))
 
 -- Over lines that hand the text out, of which none was taken.
 module _ (text : List ℕ) (form : Form) {S : Type 0} (told_in : ToldBySource S) (a b : Lines S)

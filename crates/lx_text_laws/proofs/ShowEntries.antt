@@ -1,226 +1,231 @@
--- The entries of a show as it is written, piece by piece.
-use Rattle.lx_text_laws.proofs.Imports.{ℕ, ◌+◌, Bool, true, false, ◌==◌, Option, Some, None, List, [], ◌∷◌, ◌++◌, map, filter, flat_map, codes, refl}
-use Rattle.lx_text_laws.proofs.Imports.{if◌then◌else◌, IfSome, AllByRecursion, arith, CHANNELS, CUE_MAX, Section, NoRecord, InCue, InGroup, InSub}
-use Rattle.lx_text_laws.proofs.Imports.{Part, Move, Member, PatchRow, is_filled, Cue, Group, Sub, InRange, IsTime, IsLabel, ValidPart, ValidMove}
-use Rattle.lx_text_laws.proofs.Imports.{ValidCue, ValidMember, ValidGroup, ValidSub, ValidPatchRow, Entry, PlacedEntry, Begins, Patches, HasLevels}
-use Rattle.lx_text_laws.proofs.Imports.{NamesPart, HasUp, HasDown, Follows, Links, IsLabelled, Blocks, Asserts, line, patch_text, label_text}
-use Rattle.lx_text_laws.proofs.Imports.{member_text, group_text, sub_text, part_text, block_text, assert_text, follow_text, link_text, cue_text}
-use Rattle.lx_text_laws.proofs.Imports.{kept_by, IsLevel, each, all_append, MemberSet, at_text}
-use Rattle.lx_text_laws.proofs.Passage.{here, Reads, reads_none, ◌and◌}
-use Rattle.lx_text_laws.proofs.LineTexts.{TakesLevels, level_reads, TakesLabel, label_reads, group_reads, sub_reads, cue_reads, patch_reads}
-use Rattle.lx_text_laws.proofs.LineTexts.{part_reads, up_reads, down_reads, follow_reads, link_reads, block_reads, assert_reads}
+-- What the lines of each record put into a show: a row of the patch, a group or submaster, and a cue.
+use Rattle.lx_text_laws.proofs.Imports.{◌≤◌, ◌≡◌, ℕ, ◌<◌, Bool, true, false, cond, ◌==◌, Option, Some, None, List, [], ◌∷◌, ◌++◌, map, max, filter}
+use Rattle.lx_text_laws.proofs.Imports.{find, flat_map, fold, length, refl, IfSome, is_some, AllByRecursion, list_any, arith, ◌∙◌, sym, subst}
+use Rattle.lx_text_laws.proofs.Imports.{append_assoc, append-nil, fold-append, eqb-true, cases_Bool, cases_eq, inl, inr, length-map, CHANNELS}
+use Rattle.lx_text_laws.proofs.Imports.{CUE_MAX, CUES, Section, NoRecord, InCue, Part, Move, Member, PatchRow, Cue, MemberSet, Show, InRange, IsTime}
+use Rattle.lx_text_laws.proofs.Imports.{IsLabel, ValidPart, ValidMove, ValidCue, ValidMember, ValidSet, ValidPatchRow, Begins, HasLevels, IsLabelled}
+use Rattle.lx_text_laws.proofs.Imports.{Entry, channels_named, line, patch_text, label_text, member_text, move_text, part_text, block_text}
+use Rattle.lx_text_laws.proofs.Imports.{assert_text, follow_text, link_text, cue_text, kept_by, passes, each, find_none, placed, has_entry}
+use Rattle.lx_text_laws.proofs.Imports.{all_placed, state_after, cue_with, set_with, with_up, with_down, with_set, new_cue, new_part, new_set}
+use Rattle.lx_text_laws.proofs.Imports.{eq_above, eq_true, eq_other}
+use Rattle.lx_show.specs.ChangedEntry.{changed}
+use Rattle.lx_spec.proofs.SortedLists.{below_seam, all_at_seam}
+use Rattle.std.proofs.lemmas.Bool.{false≢true}
+use Rattle.lx_text_laws.proofs.LineTexts.{Line, TakesLevels, level_reads, TakesLabel, label_reads, cue_reads, patch_reads, part_reads, up_reads}
+use Rattle.lx_text_laws.proofs.LineTexts.{down_reads, follow_reads, link_reads, block_reads, assert_reads}
+use Rattle.lx_text_laws.proofs.Passage.{stage, Takes, takes_none, ◌and◌, takes_line, last_placed, last_begun, last_changed, record_begins}
+use Rattle.lx_text_laws.proofs.Passage.{record_says}
+use Rattle.lx_reader.proofs.PlacedOver.{placed_alone}
+use Rattle.lx_text_laws.proofs.SortedGroups.{last_of_each-grouped}
 
--- an entry of one level
-abbrev pub level_entry : Section → ℕ → ℕ → ℕ → PlacedEntry
-level_entry s p c l = here s p (HasLevels (record { chan = c; level = l } ∷ []))
+wider : {k c : ℕ} → InRange CHANNELS k → InRange k c → InRange CHANNELS c
+wider all one = record { least = one.least; most = omega (arith, one.most, all.most) }
 
-wider : (channels c : ℕ) → InRange CHANNELS channels → InRange channels c → InRange CHANNELS c
-wider channels c all one = record { least = one.least; most = omega (arith, one.most, all.most) }
+-- a row of the patch
+pub row_takes : {k : ℕ} (show : Show) (done : List PatchRow) (row : PatchRow) → InRange CHANNELS k → ValidPatchRow k row
+    → AllByRecursion (λ x. x.dimmer < row.dimmer) done → (s : Section) (p : ℕ)
+    → Takes k (record show { patch = done }) s p (patch_text row) (record show { patch = done ++ row ∷ [] }) NoRecord 1
+row_takes {k} show done row range valid low s p =
+    takes_line (patch_reads {l = row.level} (wider range valid.chan) valid.dimmer valid.level) (valid.chan.most, tt)
+    (λ i count j. stage k (max count row.chan) (record show { patch = last_placed (λ x. x.dimmer) done row low j }) NoRecord 1)
 
--- the levels of members, and those of moves
-levels_read : {A : Type 0} (chan level : A → ℕ) (s : Section) (p channels : ℕ) (xs : List A) → TakesLevels s p → InRange CHANNELS channels
-    → AllByRecursion (λ x. InRange channels (chan x) × IsLevel (level x)) xs
-    → Reads s p (flat_map (λ x. line (codes "CHAN" ∷ at_text (chan x) (level x) ∷ [])) xs)
-    (map (λ x. level_entry s p (chan x) (level x)) xs) s p 0
-levels_read chan level s p channels [] takes range all = reads_none s p
-levels_read chan level s p channels (x ∷ xs) takes range all =
-    level_reads s p (chan x) (level x) takes (wider channels (chan x) range all.0.0) all.0.1
-    and levels_read chan level s p channels xs takes range all.1
+-- A group or submaster, as it stands in the show.
+abbrev set_of : ℕ → List ℕ → List Member → MemberSet
+set_of n label members = record { number = n; label = label; members = members }
 
-abbrev pub member_entries : Section → List Member → List PlacedEntry
-member_entries s members = map (λ m. level_entry s 1 m.chan m.level) members
+module _ {k limit : ℕ} (put : List MemberSet → Show) (section : ℕ → Section) (done : List MemberSet) (set : MemberSet)
+    (range : InRange CHANNELS k) (valid : ValidSet limit k set) (low : AllByRecursion (λ x. x.number < set.number) done)
+    (labels : (cs : List ℕ) → TakesLabel (section set.number) 1 cs) (levels : (cs : List ℕ) → TakesLevels (section set.number) 1 cs)
+    (changes_label : (label : List ℕ) (i count : ℕ) (xs : List MemberSet)
+    → state_after i (IsLabelled label) (stage k count (put xs) (section set.number) 1)
+    ≡ stage k count (put (changed (λ x. x.number) set.number (set_with (IsLabelled label)) xs)) (section set.number) 1)
+    (changes_level : (m : Member) (i count : ℕ) (xs : List MemberSet)
+    → state_after i (HasLevels (m ∷ [])) (stage k count (put xs) (section set.number) 1)
+    ≡ stage k (max count m.chan) (put (changed (λ x. x.number) set.number (set_with (HasLevels (m ∷ []))) xs)) (section set.number) 1) where
+  abbrev holds : List ℕ → List Member → Show
+  holds label members = put (done ++ set_of set.number label members ∷ [])
 
-members_read : (s : Section) (channels : ℕ) (members : List Member) → TakesLevels s 1 → InRange CHANNELS channels
-    → AllByRecursion (ValidMember channels) members → Reads s 1 (flat_map member_text members) (member_entries s members) s 1 0
-members_read s channels members takes range all = levels_read (λ m. m.chan) (λ m. m.level) s 1 channels members takes range
-    (each (ValidMember channels) (λ m. InRange channels m.chan × IsLevel m.level) members (λ m v. (v.chan, v.level)) all)
+  label_takes : (label : List ℕ) → IsLabel label
+      → Takes k (holds [] []) (section set.number) 1 (label_text label) (holds label []) (section set.number) 1
+  label_takes [] own = takes_none
+  label_takes (b ∷ label) own =
+      record_says (λ x. x.number) done (set_of set.number [] []) low put section
+      (set_with (IsLabelled (b ∷ label))) refl (label_reads {label = b ∷ label} (labels _) own) tt (changes_label (b ∷ label))
 
--- What may be left out.
-abbrev pub maybe : {A : Type 0} → (A → Entry) → Section → Option A → List PlacedEntry
-maybe says s None = []
-maybe says s (Some x) = here s 1 (says x) ∷ []
+  members_take : (label : List ℕ) (so_far members : List Member) → AllByRecursion (ValidMember k) members
+      → Takes k (holds label so_far) (section set.number) 1 (flat_map member_text members)
+      (holds label (all_placed (λ m. m.chan) members so_far)) (section set.number) 1
+  members_take label so_far [] all = takes_none
+  members_take label so_far (m ∷ members) all =
+      record_says (λ x. x.number) done (set_of set.number label so_far) low put section
+      (set_with (HasLevels (m ∷ []))) refl (level_reads {l = m.level} (levels _) (wider range all.0.chan) all.0.level)
+      (all.0.chan.most, tt) (changes_level m)
+      and members_take label (placed (λ m. m.chan) m so_far) members all.1
 
-abbrev pub given : {A : Type 0} → Bool → A → Option A
-given b x = if b then Some x else None
+  pub set_takes : {words : List (List ℕ)} (s : Section) (p : ℕ)
+      → Line s p (map (λ cue. cue.number) (put done).cues) words (Begins (section set.number))
+      → ((i count : ℕ) → state_after i (Begins (section set.number)) (stage k count (put done) s p)
+      ≡ stage k count (put (with_set set.number done)) (section set.number) 1)
+      → Takes k (put done) s p (line words ++ label_text set.label ++ flat_map member_text set.members) (put (done ++ set ∷ []))
+      (section set.number) 1
+  set_takes {words} s p says begins =
+      subst (λ ms. Takes k (put done) s p (line words ++ label_text set.label ++ flat_map member_text set.members) (holds set.label ms)
+      (section set.number) 1) (sym (placed_alone (λ m. m.chan) set.members set.members [] valid.members.sorted refl refl))
+      (record_begins (λ x. x.number) done (new_set set.number) low put section says begins
+      and label_takes set.label valid.label and members_take set.label [] set.members valid.members.each)
 
-abbrev pub label_entries : Section → List ℕ → List PlacedEntry
-label_entries s label = maybe IsLabelled s (given (is_filled label) label)
+-- A cue, as it stands in the show.
+has_part : (p : ℕ) (parts : List Part) → is_some (find (λ x. x.number == p) parts) ≡ list_any (λ x. p == x.number) parts
+has_part p [] = refl
+has_part p (part ∷ parts) = elim (cases_eq part.number p) [
+  | inl is ↦ rw (eq_true part.number p is, eq_true p part.number (sym is))
+  | inr other ↦ rw (eq_other part.number p other, eq_other p part.number (λ is. other (sym is))) (has_part p parts)
+]
 
-label_read : (s : Section) (label : List ℕ) → TakesLabel s 1 → IsLabel label → Reads s 1 (label_text label) (label_entries s label) s 1 0
-label_read s [] takes own = reads_none s 1
-label_read s (b ∷ label) takes own = label_reads s 1 (b ∷ label) takes own
+-- part 1 comes first
+first_is_one : (part : Part) (parts : List Part) → ValidPart part → AllByRecursion (λ x. part.number < x.number) parts
+    → is_some (find (λ x. x.number == 1) (part ∷ parts)) ≡ true → part.number ≡ 1
+first_is_one part parts valid above there =
+    let least = valid.number.least in
+    let none = find_none (λ x. x.number == 1) parts (each (λ x. part.number < x.number) _ _
+    (λ x low. eq_above x.number 1 (omega (arith, low, least))) above) in
+    elim (cases_Bool (part.number == 1)) [
+      | inl is ↦ eqb-true part.number 1 is
+      | inr is ↦ let odd = rw (is, none) at there in absurd (false≢true odd)
+    ]
 
--- the parts of a cue with their moves
-abbrev pub move_entries : ℕ → ℕ → List Move → List PlacedEntry
-move_entries n p moves = map (λ m. level_entry (InCue n) p m.chan m.level) moves
-
-abbrev pub in_part : ℕ → List Move → List Move
-in_part p moves = filter (λ m. m.part == p) moves
-
-abbrev pub part_entries : ℕ → ℕ → List Move → Part → List PlacedEntry
-part_entries n q moves part =
-    here (InCue n) q (NamesPart part.number) ∷ here (InCue n) part.number (HasUp part.up part.up_delay) ∷ here (InCue n) part.number
-    (HasDown part.down part.down_delay)
-    ∷ move_entries n part.number (in_part part.number moves)
-
-part_read : (n q channels : ℕ) (parts : List Part) (moves : List Move) (part : Part) → InRange CHANNELS channels
-    → AllByRecursion (ValidMove channels parts) moves → ValidPart part
-    → Reads (InCue n) q (part_text moves part) (part_entries n q moves part) (InCue n) part.number 0
-part_read n q channels parts moves part range all valid =
-    let p = part.number in
-    let some = in_part p moves in
-    part_reads n q p valid.number and up_reads n p part.up part.up_delay valid.up valid.up_delay
-    and down_reads n p part.down part.down_delay valid.down valid.down_delay
-    and levels_read (λ m. m.chan) (λ m. m.level) (InCue n) p channels some (λ i cs line rest. refl) range
-    (each (ValidMove channels parts) (λ m. InRange channels m.chan × IsLevel m.level) some (λ m v. (v.chan, v.level))
-    (kept_by (ValidMove channels parts) (λ m. m.part == p) moves all))
-
-abbrev pub parts_entries : ℕ → ℕ → List Move → List Part → List PlacedEntry
-parts_entries n q moves [] = []
-parts_entries n q moves (part ∷ parts) = part_entries n q moves part ++ parts_entries n part.number moves parts
-
-abbrev pub last_part : ℕ → List Part → ℕ
+abbrev last_part : ℕ → List Part → ℕ
 last_part q [] = q
 last_part q (part ∷ parts) = last_part part.number parts
 
-parts_read : (n q channels : ℕ) (all_parts : List Part) (moves : List Move) (parts : List Part) → InRange CHANNELS channels
-    → AllByRecursion (ValidMove channels all_parts) moves → AllByRecursion ValidPart parts
-    → Reads (InCue n) q (flat_map (part_text moves) parts) (parts_entries n q moves parts) (InCue n) (last_part q parts) 0
-parts_read n q channels all_parts moves [] range all valid = reads_none (InCue n) q
-parts_read n q channels all_parts moves (part ∷ parts) range all valid =
-    part_read n q channels all_parts moves part range all valid.0
-    and parts_read n part.number channels all_parts moves parts range all valid.1
+module _ (show : Show) (done : List Cue) (cue : Cue) where
+  abbrev holds_cue : Cue → Show
+  holds_cue it = record show { cues = done ++ it ∷ [] }
 
--- a cue: the lines of its flags, where they are set, and what else is there
-block_read : (n : ℕ) (b : Bool) → Reads (InCue n) 1 (block_text b) (maybe (λ (x : Bool). Blocks) (InCue n) (given b true)) (InCue n) 1 0
-block_read n true = block_reads n 1
-block_read n false = reads_none (InCue n) 1
+  -- before its parts, and with these parts and moves
+  abbrev bare : Bool → Bool → List ℕ → Option ℕ → Option ℕ → Cue
+  bare block asserted label follow link = record (new_cue cue.number) {
+    block = block;
+    asserted = asserted;
+    label = label;
+    follow = follow;
+    link = link;
+  }
 
-assert_read : (n : ℕ) (b : Bool) → Reads (InCue n) 1 (assert_text b) (maybe (λ (x : Bool). Asserts) (InCue n) (given b true)) (InCue n) 1 0
-assert_read n true = assert_reads n 1
-assert_read n false = reads_none (InCue n) 1
+  abbrev filled : List Part → List Move → Cue
+  filled parts moves = record cue { parts = parts; moves = moves }
 
-follow_read : (n : ℕ) (follow : Option ℕ) → IfSome follow IsTime
-    → Reads (InCue n) 1 (follow_text follow) (maybe Follows (InCue n) follow) (InCue n) 1 0
-follow_read n None low = reads_none (InCue n) 1
-follow_read n (Some t) low = follow_reads n 1 t low
+  abbrev moves_of_parts : List Part → List Move
+  moves_of_parts parts = flat_map (λ part. filter (λ m. m.part == part.number) cue.moves) parts
 
-link_read : (n : ℕ) (link : Option ℕ) → IfSome link (InRange CUE_MAX)
-    → Reads (InCue n) 1 (link_text link) (maybe Links (InCue n) link) (InCue n) 1 0
-link_read n None range = reads_none (InCue n) 1
-link_read n (Some m) range = link_reads n 1 m range
+  abbrev TakesOn : ℕ → Cue → ℕ → List ℕ → Cue → ℕ → Type 0
+  TakesOn k old p text new p' = Takes k (holds_cue old) (InCue cue.number) p text (holds_cue new) (InCue cue.number) p'
 
--- its lines before the parts
-abbrev pub cue_head : Cue → List PlacedEntry
-cue_head cue =
-    let s = InCue cue.number in
-    maybe (λ (x : Bool). Blocks) s (given cue.block true) ++ maybe (λ (x : Bool). Asserts) s (given cue.asserted true)
-    ++ label_entries s cue.label ++ maybe Follows s cue.follow ++ maybe Links s cue.link
+  abbrev TakesHead : ℕ → Cue → List ℕ → Cue → Type 0
+  TakesHead k old text new = TakesOn k old 1 text new 1
 
-abbrev pub cue_body : Cue → List PlacedEntry
-cue_body cue = cue_head cue ++ parts_entries cue.number 1 cue.moves cue.parts
+  module _ {k : ℕ} (range : InRange CHANNELS k) (valid : ValidCue k cue) (low : AllByRecursion (λ x. x.number < cue.number) done) where
+    -- one more line of it
+    says : {p p' : ℕ} {words : List (List ℕ)} {e : Entry} (it : Cue) → AllByRecursion (λ x. x.number < it.number) done
+        → Line (InCue it.number) p (map (λ cue. cue.number) (done ++ it ∷ [])) words e → AllByRecursion (λ c. c ≤ k) (channels_named e)
+        → ((i count : ℕ) (xs : List Cue) → state_after i e (stage k count (record show { cues = xs }) (InCue it.number) p)
+        ≡ stage k (fold max count (channels_named e)) (record show { cues = changed (λ x. x.number) it.number (cue_with p e) xs })
+        (InCue it.number) p')
+        → Takes k (holds_cue it) (InCue it.number) p (line words) (holds_cue (cue_with p e it)) (InCue it.number) p'
+    says {p = p} {e = e} it low line most after =
+        record_says (λ x. x.number) done it low (λ cues. record show { cues = cues }) InCue (cue_with p e) refl line most after
 
--- What holds of each of these entries.
-pub maybe_all : {A : Type 0} (P : PlacedEntry → Type 0) (says : A → Entry) (s : Section) (o : Option A) → ((x : A) → P (here s 1 (says x)))
-    → AllByRecursion P (maybe says s o)
-maybe_all P says s None all = tt
-maybe_all P says s (Some x) all = (all x, tt)
+    block_takes : (b : Bool) → TakesHead k (bare false false [] None None) (block_text b) (bare b false [] None None)
+    block_takes true = says (bare false false [] None None) low block_reads tt (λ i count xs. refl)
+    block_takes false = takes_none
 
-pub head_all : (P : PlacedEntry → Type 0) (cue : Cue) → P (here (InCue cue.number) 1 Blocks) → P (here (InCue cue.number) 1 Asserts)
-    → ((label : List ℕ) → P (here (InCue cue.number) 1 (IsLabelled label))) → ((t : ℕ) → P (here (InCue cue.number) 1 (Follows t)))
-    → ((m : ℕ) → P (here (InCue cue.number) 1 (Links m))) → AllByRecursion P (cue_head cue)
-head_all P cue block asserted label follow link =
-    let s = InCue cue.number in
-    all_append P _ _ (all_append P _ _ (all_append P _ _ (all_append P _ _
-    (maybe_all P (λ (x : Bool). Blocks) s (given cue.block true) (λ x. block))
-    (maybe_all P (λ (x : Bool). Asserts) s (given cue.asserted true) (λ x. asserted)))
-    (maybe_all P IsLabelled s (given (is_filled cue.label) cue.label) label)) (maybe_all P Follows s cue.follow follow))
-    (maybe_all P Links s cue.link link)
+    assert_takes : (b a : Bool) → TakesHead k (bare b false [] None None) (assert_text a) (bare b a [] None None)
+    assert_takes b true = says (bare b false [] None None) low assert_reads tt (λ i count xs. refl)
+    assert_takes b false = takes_none
 
-pub parts_all : (P : PlacedEntry → Type 0) (n q : ℕ) (moves : List Move) (parts : List Part)
-    → ((q p : ℕ) → P (here (InCue n) q (NamesPart p))) → ((p t d : ℕ) → P (here (InCue n) p (HasUp t d)))
-    → ((p t d : ℕ) → P (here (InCue n) p (HasDown t d))) → ((p : ℕ) → AllByRecursion P (move_entries n p (in_part p moves)))
-    → AllByRecursion P (parts_entries n q moves parts)
-parts_all P n q moves [] names ups downs levels = tt
-parts_all P n q moves (part ∷ parts) names ups downs levels =
-    let p = part.number in
-    let rest = all_append P (move_entries n p (in_part p moves)) (parts_entries n p moves parts) (levels p)
-    (parts_all P n p moves parts names ups downs levels) in
-    (names q p, (ups p part.up part.up_delay, (downs p part.down part.down_delay, rest)))
+    label_of_cue : (b a : Bool) (label : List ℕ) → IsLabel label
+        → TakesHead k (bare b a [] None None) (label_text label) (bare b a label None None)
+    label_of_cue b a [] own = takes_none
+    label_of_cue b a (c ∷ label) own =
+        says (bare b a [] None None) low (label_reads {label = c ∷ label} (λ i line rest. refl) own) tt (λ i count xs. refl)
 
--- What begins a record: its lines, and what they say in its section.
-pub record Chunk : Type 0 where
-  pub section : Section
-  pub text : List ℕ
-  pub body : List PlacedEntry
-  pub part : ℕ
-  pub new : ℕ
+    follow_takes : (b a : Bool) (label : List ℕ) (follow : Option ℕ) → IfSome follow IsTime
+        → TakesHead k (bare b a label None None) (follow_text follow) (bare b a label follow None)
+    follow_takes b a label None time = takes_none
+    follow_takes b a label (Some t) time = says (bare b a label None None) low (follow_reads {t = t} time) tt (λ i count xs. refl)
 
-abbrev pub ChunkReads : Chunk → Type 0
-ChunkReads c = (s : Section) (p : ℕ) → Reads s p c.text (here s p (Begins c.section) ∷ c.body) c.section c.part c.new
+    link_takes : (b a : Bool) (label : List ℕ) (follow link : Option ℕ) → IfSome link (InRange CUE_MAX)
+        → TakesHead k (bare b a label follow None) (link_text link) (bare b a label follow link)
+    link_takes b a label follow None number = takes_none
+    link_takes b a label follow (Some n) number = says (bare b a label follow None) low (link_reads number) tt (λ i count xs. refl)
 
-abbrev pub cue_chunk : Cue → Chunk
-cue_chunk cue = record { section = InCue cue.number; text = cue_text cue; body = cue_body cue; part = last_part 1 cue.parts; new = 1 }
+    moves_take : (parts : List Part) (p : ℕ) (so_far moves : List Move) → AllByRecursion (ValidMove k cue.parts) moves
+        → AllByRecursion (λ m. (m.part == p) ≡ true) moves
+        → TakesOn k (filled parts so_far) p (flat_map move_text moves) (filled parts (all_placed (λ m. m.chan) moves so_far)) p
+    moves_take parts p so_far [] all own = takes_none
+    moves_take parts p so_far (m ∷ moves) all own =
+        subst (λ q. TakesOn k (filled parts so_far) p (move_text m) (filled parts (placed (λ m. m.chan) (record m { part = q }) so_far)) p)
+        (sym (eqb-true m.part p own.0))
+        (says (filled parts so_far) low (level_reads {l = m.level} (λ i line rest. refl) (wider range all.0.chan) all.0.level)
+        (all.0.chan.most, tt) (λ i count xs. refl))
+        and moves_take parts p (placed (λ m. m.chan) m so_far) moves all.1 own.1
 
-pub cue_read : (channels : ℕ) (cue : Cue) → InRange CHANNELS channels → ValidCue channels cue → ChunkReads (cue_chunk cue)
-cue_read channels cue range valid s p =
-    let n = cue.number in
-    cue_reads s p n valid.number and block_read n cue.block and assert_read n cue.asserted
-    and label_read (InCue n) cue.label (λ i cs line rest. refl) valid.label and follow_read n cue.follow valid.follow
-    and link_read n cue.link valid.link and parts_read n 1 channels cue.parts cue.moves cue.parts range valid.moves valid.parts
+    -- a part is opened, and its lines say the rest of it
+    part_takes : (front parts : List Part) (part : Part) (more : List Part) (q : ℕ) (so_far : List Move) → cue.parts ≡ front ++ part ∷ more
+        → cond (has_entry (λ x. x.number) part.number parts) parts (placed (λ x. x.number) (new_part part.number) parts)
+        ≡ front ++ new_part part.number ∷ []
+        → TakesOn k (filled parts so_far) q (part_text cue.moves part)
+        (filled (front ++ part ∷ []) (all_placed (λ m. m.chan) (filter (λ m. m.part == part.number) cue.moves) so_far)) part.number
+    part_takes front parts part more q so_far is opens =
+        let p = part.number in
+        let v = all_at_seam ValidPart front more part (rw is at valid.parts) in
+        let below = below_seam (λ x. x.number) front more part (rw is at valid.parts_sorted) in
+        let up = with_up part.up part.up_delay in
+        let down = with_down part.down part.down_delay in
+        let opened = rw opens at (says {p = q} (filled parts so_far) low (part_reads v.number) tt (λ i count xs. refl)) in
+        let raised = rw (last_changed (λ x. x.number) front (new_part p) below up refl) at
+        (says {p = p} (filled (front ++ new_part p ∷ []) so_far) low (up_reads {t = part.up} {d = part.up_delay} v.up v.up_delay) tt
+        (λ i count xs. refl)) in
+        let lowered = rw (last_changed (λ x. x.number) front (up (new_part p)) below down refl) at
+        (says {p = p} (filled (front ++ up (new_part p) ∷ []) so_far) low
+        (down_reads {t = part.down} {d = part.down_delay} v.down v.down_delay) tt (λ i count xs. refl)) in
+        opened and raised and lowered
+        and moves_take (front ++ part ∷ []) p so_far (filter (λ m. m.part == p) cue.moves) (kept_by _ _ cue.moves valid.moves)
+        (passes (λ m. m.part == p) cue.moves)
 
--- groups and submasters
-abbrev pub set_body : Section → MemberSet → List PlacedEntry
-set_body s set = label_entries s set.label ++ member_entries s set.members
+    parts_take : (front parts : List Part) (part : Part) (more : List Part) (q : ℕ) (so_far : List Move) → cue.parts ≡ front ++ part ∷ more
+        → cond (has_entry (λ x. x.number) part.number parts) parts (placed (λ x. x.number) (new_part part.number) parts)
+        ≡ front ++ new_part part.number ∷ []
+        → TakesOn k (filled parts so_far) q (flat_map (part_text cue.moves) (part ∷ more))
+        (filled cue.parts (all_placed (λ m. m.chan) (moves_of_parts (part ∷ more)) so_far)) (last_part part.number more)
+    parts_take front parts part [] q so_far is opens = simp (is, append-nil) (part_takes front parts part [] q so_far is opens)
+    parts_take front parts part (next ∷ more) q so_far is opens =
+        let now = front ++ part ∷ [] in
+        let some = filter (λ m. m.part == part.number) cue.moves in
+        let then : cue.parts ≡ now ++ next ∷ more = is ∙ sym (append_assoc front (part ∷ []) (next ∷ more)) in
+        let below = below_seam (λ x. x.number) now more next (rw then at valid.parts_sorted) in
+        rw (fold-append (λ ys x. placed (λ m. m.chan) x ys) so_far some (moves_of_parts (next ∷ more)))
+        (part_takes front parts part (next ∷ more) q so_far is opens
+        and parts_take now now next more part.number (all_placed (λ m. m.chan) some so_far) then
+        (last_begun (λ x. x.number) now (new_part next.number) below))
 
-abbrev pub group_chunk : Group → Chunk
-group_chunk group =
-    let s = InGroup group.number in record { section = s; text = group_text group; body = set_body s group; part = 1; new = 0 }
+    all_parts : (parts : List Part) → cue.parts ≡ parts
+        → TakesOn k (filled (new_part 1 ∷ []) []) 1 (flat_map (part_text cue.moves) parts)
+        (filled cue.parts (all_placed (λ m. m.chan) (moves_of_parts parts) [])) (last_part 1 parts)
+    all_parts [] is = absurd (false≢true (rw is at valid.first_part))
+    all_parts (part ∷ more) is =
+        let one = first_is_one part more (rw is at valid.parts).0 (rw is at valid.parts_sorted).0 (rw is at valid.first_part) in
+        parts_take [] (new_part 1 ∷ []) part more 1 [] is (rw one refl)
 
-pub group_read : (channels : ℕ) (group : Group) → InRange CHANNELS channels → ValidGroup channels group → ChunkReads (group_chunk group)
-group_read channels group range valid s p =
-    let g = InGroup group.number in
-    group_reads s p group.number valid.number and label_read g group.label (λ i cs line rest. refl) valid.label
-    and members_read g channels group.members (λ i cs line rest. refl) range valid.members.each
-
-abbrev pub sub_chunk : Sub → Chunk
-sub_chunk sub = let s = InSub sub.number in record { section = s; text = sub_text sub; body = set_body s sub; part = 1; new = 0 }
-
-pub sub_read : (channels : ℕ) (sub : Sub) → InRange CHANNELS channels → ValidSub channels sub → ChunkReads (sub_chunk sub)
-sub_read channels sub range valid s p =
-    let g = InSub sub.number in
-    sub_reads s p sub.number valid.number and label_read g sub.label (λ i cs line rest. refl) valid.label
-    and members_read g channels sub.members (λ i cs line rest. refl) range valid.members.each
-
--- one after another
-abbrev pub chunks_entries : Section → ℕ → List Chunk → List PlacedEntry
-chunks_entries s p [] = []
-chunks_entries s p (c ∷ cs) = here s p (Begins c.section) ∷ (c.body ++ chunks_entries c.section c.part cs)
-
-abbrev pub last_section : Section → List Chunk → Section
-last_section s [] = s
-last_section s (c ∷ cs) = last_section c.section cs
-
-abbrev pub part_at_end : ℕ → List Chunk → ℕ
-part_at_end p [] = p
-part_at_end p (c ∷ cs) = part_at_end c.part cs
-
-abbrev pub new_in : List Chunk → ℕ
-new_in [] = 0
-new_in (c ∷ cs) = c.new + new_in cs
-
-pub chunks_read : (cs : List Chunk) → AllByRecursion ChunkReads cs → (s : Section) (p : ℕ)
-    → Reads s p (flat_map (λ c. c.text) cs) (chunks_entries s p cs) (last_section s cs) (part_at_end p cs) (new_in cs)
-chunks_read [] all s p = reads_none s p
-chunks_read (c ∷ cs) all s p = all.0 s p and chunks_read cs all.1 c.section c.part
-
--- patch rows
-abbrev pub patch_entries : List PatchRow → List PlacedEntry
-patch_entries rows = map (λ row. here NoRecord 1 (Patches (row ∷ []))) rows
-
-pub patch_read : (channels : ℕ) (rows : List PatchRow) → InRange CHANNELS channels → AllByRecursion (ValidPatchRow channels) rows
-    → Reads NoRecord 1 (flat_map patch_text rows) (patch_entries rows) NoRecord 1 0
-patch_read channels [] range all = reads_none NoRecord 1
-patch_read channels (row ∷ rows) range all =
-    patch_reads row.chan row.dimmer row.level (wider channels row.chan range all.0.chan) all.0.dimmer all.0.level
-    and patch_read channels rows range all.1
+    pub cue_takes : (s : Section) (p : ℕ) → length done < CUES
+        → Takes k (record show { cues = done }) s p (cue_text cue) (record show { cues = done ++ cue ∷ [] }) (InCue cue.number)
+        (last_part 1 cue.parts)
+    cue_takes s p room =
+        let moves = last_of_each-grouped (λ m. m.chan) (λ part m. m.part == part.number) cue.moves cue.parts valid.moves_sorted
+        (each (ValidMove k cue.parts) _ _ (λ m v. sym (has_part m.part cue.parts) ∙ v.part) valid.moves) in
+        rw moves at
+        (record_begins (λ x. x.number) done (new_cue cue.number) low (λ cues. record show { cues = cues }) InCue {s = s} {p = p}
+        (cue_reads valid.number (omega (arith, room, length-map done (λ x. x.number)))) (λ i count. refl)
+        and block_takes cue.block and assert_takes cue.block cue.asserted and label_of_cue cue.block cue.asserted cue.label valid.label
+        and follow_takes cue.block cue.asserted cue.label cue.follow valid.follow
+        and link_takes cue.block cue.asserted cue.label cue.follow cue.link valid.link and all_parts cue.parts refl)

@@ -1,27 +1,16 @@
 -- A sorted list comes back from its entries, also where they are placed group by group.
 use Rattle.lx_text_laws.proofs.Imports.{◌≡◌, ℕ, ◌<◌, Bool, true, false, cond, ◌||◌, List, [], ◌∷◌, ◌++◌, map, filter, flat_map, refl, AllByRecursion}
 use Rattle.lx_text_laws.proofs.Imports.{list_any, ap, ◌∙◌, sym, append_assoc, fold-append, IsStrictlySorted, placed, last_of_each, each, kept_by}
-use Rattle.lx_text_laws.proofs.Imports.{filter_all, filter_none, all_append}
+use Rattle.lx_text_laws.proofs.Imports.{filter_all, all_append}
 use Rattle.lx_spec.specs.SortedList.{all_placed}
 use Rattle.lx_spec.proofs.SortedLists.{goes_between, stands_between}
-
-pub All-both : {A : Type 0} (P Q R : A → Type 0) (xs : List A) → ((x : A) → P x → Q x → R x) → AllByRecursion P xs → AllByRecursion Q xs
-    → AllByRecursion R xs
-All-both P Q R [] both one other = tt
-All-both P Q R (x ∷ xs) both one other = (both x one.0 other.0, All-both P Q R xs both one.1 other.1)
-
-pub All-map : {A B : Type 0} (P : B → Type 0) (f : A → B) (xs : List A) → AllByRecursion (λ x. P (f x)) xs → AllByRecursion P (map f xs)
-All-map P f [] all = tt
-All-map P f (x ∷ xs) all = (all.0, All-map P f xs all.1)
-
-pub All-each : {A : Type 0} (P : A → Type 0) (xs : List A) → ((x : A) → P x) → AllByRecursion P xs
-All-each P [] each = tt
-All-each P (x ∷ xs) each = (each x, All-each P xs each)
+use Rattle.std.proofs.Math.Bool.{or_assoc, or-false}
+use Rattle.lx_reader.proofs.Members.{all_map}
 
 pub IsStrictlySorted-map : {A B : Type 0} (key : B → ℕ) (f : A → B) (xs : List A) → IsStrictlySorted (λ x. key (f x)) xs
     → IsStrictlySorted key (map f xs)
 IsStrictlySorted-map key f [] sorted = tt
-IsStrictlySorted-map key f (x ∷ xs) sorted = (All-map (λ y. key (f x) < key y) f xs sorted.0, IsStrictlySorted-map key f xs sorted.1)
+IsStrictlySorted-map key f (x ∷ xs) sorted = (all_map (λ y. key (f x) < key y) xs (λ y h. h) sorted.0, IsStrictlySorted-map key f xs sorted.1)
 
 module _ {A : Type 0} (key : A → ℕ) where
   -- an entry in its place between those below it and those above it, where it may stand already
@@ -58,24 +47,12 @@ module _ {A : Type 0} (key : A → ℕ) where
       split (t x) (u x)
 
   none_kept : (xs : List A) → filter (λ x. false) xs ≡ []
-  none_kept xs = filter_none (λ x. false) xs (All-each (λ x. false ≡ false) xs (λ x. refl))
-
-  pub last_of_each-same : (xs : List A) → IsStrictlySorted key xs → last_of_each key xs ≡ xs
-  last_of_each-same xs sorted =
-      let all = filter_all (λ x. true) xs (All-each (λ x. true ≡ true) xs (λ x. refl)) in
-      (λ j. all_placed key (sym all j) (sym (none_kept xs) j)) ∙ place_group (λ x. false) (λ x. true) [] xs tt sorted ∙ all
-
-  or_false : (b : Bool) → (b || false) ≡ b
-  or_false true = refl
-  or_false false = refl
-
-  or_assoc : (a b c : Bool) → (a || b || c) ≡ (a || (b || c))
-  or_assoc true b c = refl
-  or_assoc false b c = refl
+  none_kept [] = refl
+  none_kept (x ∷ xs) = none_kept xs
 
   grouped : {P : Type 0} (member : P → A → Bool) (xs : List A) → IsStrictlySorted key xs → (t : A → Bool) (ps : List P)
       → all_placed key (flat_map (λ p. filter (member p) xs) ps) (filter t xs) ≡ filter (λ x. t x || list_any (λ p. member p x) ps) xs
-  grouped member xs sorted t [] = λ j. filter (λ x. sym (or_false (t x)) j) xs
+  grouped member xs sorted t [] = λ j. filter (λ x. sym (or-false (t x)) j) xs
   grouped member xs sorted t (p ∷ ps) =
       let more = flat_map (λ q. filter (member q) xs) ps in
       fold-append (λ ys x. placed key x ys) (filter t xs) (filter (member p) xs) more

@@ -1,6 +1,6 @@
 -- Lists of shows with one at an end, and the laws of undo and redo.
 use Rattle.lx_undo.proofs.Imports.{◌≡◌, ℕ, suc, ◌-◌, ◌≤◌, Bool, true, List, [], ◌∷◌, ◌++◌, length, take, drop, Some, None, Ok, Err}
-use Rattle.lx_undo.proofs.Imports.{refl, ◌∙◌, sym, ap, subst, arith, length-append, Option, Result, slice_get, option_map_or, IsOkAnd, take_at, Command}
+use Rattle.lx_undo.proofs.Imports.{refl, ◌∙◌, sym, ap, subst, arith, length-append, Option, Result, slice_get, option_map_or, IsOkAnd, Command}
 use Rattle.lx_undo.proofs.Imports.{Edit, UndoFault, NothingToUndo, NothingToRedo, Show, Desk, step, is_edit, UndoState, last_of, replaced, with_show, undo_step}
 use Rattle.lx_undo.proofs.Imports.{record_step, back_to, forth_to, undo, redo}
 use Rattle.std.proofs.lemmas.List.{drop-append-le}
@@ -8,6 +8,8 @@ use Rattle.lx_spec.specs.declared.Command.TheVariants as commands
 use Rattle.lx_spec.specs.EditedShow.{edited}
 use Rattle.lx_spec.specs.RecordedLevels.{recorded}
 use Rattle.lx_spec.proofs.EditedCues.{bind_ok, ok_is}
+use Rattle.lx_spec.proofs.Lists.{none_differs}
+use Rattle.lx_session.proofs.EachLine.{but_last}
 use Rattle.lx_undo.specs.Laws.{LawOfUndo}
 
 slice_get-last : {A : Type 0} (xs : List A) (x : A) → slice_get (xs ++ x ∷ []) (length xs) ≡ Some x
@@ -20,21 +22,14 @@ last_is xs x =
     let at : length (xs ++ x ∷ []) - 1 ≡ length xs = omega (arith, length-append xs (x ∷ [])) in
     ap (slice_get (xs ++ x ∷ [])) at ∙ slice_get-last xs x
 
--- and those before it
-pub but_last : {A : Type 0} (xs : List A) (x : A) → take (length (xs ++ x ∷ []) - 1) (xs ++ x ∷ []) ≡ xs
-but_last xs x = take_at xs (x ∷ []) (length (xs ++ x ∷ []) - 1) (omega (arith, length-append xs (x ∷ [])))
-
 -- of a list that ends in x the last ones end in x
 kept_end : {A : Type 0} (n : ℕ) (xs : List A) (x : A) → 1 ≤ n
     → last_of n (xs ++ x ∷ []) ≡ drop (length (xs ++ x ∷ []) - n) xs ++ x ∷ []
 kept_end n xs x least = drop-append-le (length (xs ++ x ∷ []) - n) xs (x ∷ []) (omega (arith, length-append xs (x ∷ [])))
 
-none_is : {A : Type 0} (x : A) → None ≡ Some x → ⊥
-none_is x is = cc
-
 -- a list with a last entry is those before it, and it
 pub with_last : {A : Type 0} (xs : List A) (x : A) → slice_get xs (length xs - 1) ≡ Some x → take (length xs - 1) xs ++ x ∷ [] ≡ xs
-with_last [] x is = absurd (none_is x is)
+with_last [] x is = absurd (none_differs x is)
 with_last (y ∷ []) x is = let same : x ≡ y = cc in ap (λ z. z ∷ []) same
 with_last {A} (y ∷ z ∷ zs) x is =
     let next : length (y ∷ z ∷ zs) - 1 ≡ suc (length (z ∷ zs) - 1) = omega arith in
@@ -43,7 +38,7 @@ with_last {A} (y ∷ z ∷ zs) x is =
 
 -- a list with a first entry is it, and those after it
 pub with_first : {A : Type 0} (xs : List A) (x : A) → slice_get xs 0 ≡ Some x → x ∷ drop 1 xs ≡ xs
-with_first [] x is = absurd (none_is x is)
+with_first [] x is = absurd (none_differs x is)
 with_first (y ∷ ys) x is = let same : x ≡ y = cc in ap (λ z. z ∷ ys) same
 
 -- after the show was replaced, undo gives the one before

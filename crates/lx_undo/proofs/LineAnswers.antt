@@ -4,7 +4,7 @@ use Rattle.lx_undo.proofs.Imports.{◌∙◌, subst, inl, inr, ◌-◌, is_some,
 use Rattle.lx_undo.proofs.Imports.{cases_Bool, Command, Line, Memory, UndoLine, Desk, Kept, is_edit, ok_text, refused_text, line_of, Session}
 use Rattle.lx_undo.proofs.Imports.{DeskState, begun, UndoState, undo_line_of, undo_answer, undo_answering, asked, attempted}
 use Rattle.lx_undo.proofs.Imports.{plain, after_asking, after_plain, UndoMayFail, MayFailAsked, after_commands, LineProgress, reply_to, counts_after, counts_in}
-use Rattle.lx_undo.proofs.Imports.{LineState, next_of, unattempted, OneAnswer, StandsFor, allowed_some, line_answered, turn_answered, TurnAnswer}
+use Rattle.lx_undo.proofs.Imports.{LineState, next_of, unattempted, OneAnswer, StandsFor, allowed_some, line_answered, turn_answered}
 use Rattle.lx_undo.proofs.Imports.{reached, HasReached, UndoKept, UndoStands, ◌≢◌, IfSome}
 use Rattle.lx_io.specs.declared.sink.SinkFault.{SinkFault}
 use Rattle.lx_io.specs.Puts.{Puts}
@@ -107,13 +107,8 @@ pub answered_line : {K T : Type 0} {told : ToldBySink K} {sink sink' : K} {resul
     → ((d : Desk) → StandsFor d console → Puts told sink sink' result (reply_to d turn.meaning turn.refusal))
     → ((d : Desk) → StandsFor d console → OnOk result (counts_in after ≡ counts_after d (counts_in before) turn.meaning turn.refusal))
     → OneAnswer (spared ample undo_answering) told sink sink' result s text (λ (state : UndoState). UndoStands state u) after
-answered_line {told} {sink} {sink'} {result} {s} {text} {start} {turn} {u} before {after} ample other begun_so same is none counted_so t over puts
-    counts =
-    let heard : List Command → Type 0 = HasReached s.state u (start.left - turn.left) in
-    let a : TurnAnswer (ample ≡ true) true heard told sink sink' result s.counts (begun s.state.desk) (line_of text) u.console after =
-    turn_answered {turn = turn} {before = before} other
-    (subst (λ (v : LineState). LineProgress true heard (begun s.state.desk) v turn u.console) (begun_so ∙ ap unattempted is) t) over counted_so
-    (λ d stands. puts d (subst (StandsFor d) (sym same) stands)) (λ d stands. counts d (subst (StandsFor d) (sym same) stands)) in
+answered_line {s = s} {text} {turn = turn} {u} before ample other begun_so same is none counted_so t over puts counts =
+    let a = turn_answered {turn = turn} {before = before} other (rw (begun_so, is) at t) over counted_so (rw same at puts) (rw same at counts) in
     line_answered undo_answering ample (λ (state : UndoState). UndoStands state u) (after_plain s.state) a (plain_answer a.failed s text none)
     (λ edit. subst (UndoMayFail s.state text) (sym none) edit)
     (subst (λ (x : UndoState). UndoStands x u) (sym (plain_is s.state a.now a.commands a.accepted a.desk)) a.listened.stands)

@@ -1,6 +1,6 @@
 -- The engine's steps: a command is admitted, accepted and published.
-use Rattle.lx_workers.proofs.Imports.{◌≡◌, ◌+◌, ◌-◌, ◌^◌, ◌<◌, ℕ, true, List, [], ◌∷◌, ◌++◌, length, length-append, sym, ap}
-use Rattle.lx_workers.proofs.Imports.{◌∙◌, subst, arith, Command, Show, replay, Kept, Published, IsInStep, accepted_of, leaves_room}
+use Rattle.lx_workers.proofs.Imports.{◌≡◌, ◌+◌, ◌-◌, ◌^◌, ◌<◌, ℕ, true, List, [], ◌∷◌, ◌++◌, length, length-append, ap}
+use Rattle.lx_workers.proofs.Imports.{◌∙◌, arith, Command, Show, replay, Kept, Published, IsInStep, accepted_of, leaves_room}
 use Rattle.lx_workers.proofs.Imports.{Result, Ok, Err, OnOk, HasCause, SendsAll}
 use Rattle.std.proofs.lemmas.Bool.Decides.{nat_tests}
 use Rattle.lx_session.specs.Attempts.{AcceptedStep}
@@ -19,8 +19,7 @@ pub in_step_heard : (show : Show) (gate : Published) (unsent unsent' : List Comm
     → AcceptedStep before command after → leaves_room (accepted_of gate unsent) ≡ true → unsent' ≡ unsent ++ command ∷ []
     → IsInStep show gate unsent' after
 in_step_heard show gate unsent unsent' command before after h accepted room is =
-    subst (λ (l : List Command). IsInStep show gate l after) (sym is)
-    (in_step_push show gate unsent command before after h (counted gate unsent room)
+    rw is (in_step_push show gate unsent command before after h (counted gate unsent room)
     (accepted (replay show (gate.published ++ unsent)) h.stands))
 
 -- where commands left room, those before them did

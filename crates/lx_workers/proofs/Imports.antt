@@ -4,7 +4,7 @@ pub use Rattle.std.proofs.Common.{◌⊎◌, ◌&&◌, ap, append-nil, append_as
 pub use Rattle.std.proofs.Common.{length-append, length-set, List, ltb, min, None, Ok, OnErr, OnOk, Option, refl, replicate, Result, reverse, rules, set, slice_get, Some}
 pub use Rattle.std.proofs.Common.{subst, suc, sym, take, true, vec_capacity, vec_len, zero}
 pub use Rattle.lx_base.specs.Places.{EachAt}
-pub use Rattle.lx_gate.proofs.Prefixes.{prefix_get, prefix_length, prefix_self, prefix_trans, prefix_whole}
+pub use Rattle.lx_gate.proofs.Prefixes.{prefix_length, prefix_self, prefix_trans, prefix_whole}
 pub use Rattle.lx_gate.specs.CommandLists.{IsChained, longest}
 pub use Rattle.lx_gate.specs.Desks.{IsInStep}
 pub use Rattle.lx_gate.specs.Frames.{IsFrame}

@@ -1,8 +1,8 @@
 -- Places, and what stands in them.
 use Rattle.lx_workers.proofs.Imports.{◌≡◌, ◌≢◌, inl, inr, ℕ, zero, suc, ◌+◌, ◌-◌, ◌<◌, ◌≤◌, List, [], ◌∷◌}
 use Rattle.lx_workers.proofs.Imports.{◌++◌, length, replicate, Some, None, set, slice_get, IsSome, IsSomeAnd, sym, ap, ◌∙◌, subst, arith}
-use Rattle.lx_workers.proofs.Imports.{append_assoc, length-append, slice_get_within, same_Some, IsPrefix, SinkFault, Command, Show, EachAt, Tapped, prefix_get}
-use Rattle.lx_workers.proofs.Imports.{Served, HasServed, Delivered, IsFull, IsTaken, IsGiven, OutletIsBack, ToldBySink}
+use Rattle.lx_workers.proofs.Imports.{append_assoc, length-append, slice_get_within, same_Some, IsPrefix, SinkFault, Command, Show, EachAt, Tapped}
+use Rattle.lx_workers.proofs.Imports.{Served, HasServed, IsFull, IsTaken, IsGiven, OutletIsBack, ToldBySink}
 use Rattle.std.specs.declared.option.Option.{Option}
 use Rattle.std.proofs.lemmas.Bool.{cases_lt}
 use Rattle.lx_work.proofs.Places.{get_last, get_left, get-set_other}
@@ -31,7 +31,8 @@ pub prefix_less : {X : Type 0} (all old new : List X) (x : X) → old ≡ new ++
 prefix_less all old new x e p = (x ∷ p.0, sym (append_assoc new (x ∷ []) p.0) ∙ ap (λ l. l ++ p.0) (sym e) ∙ p.1)
 
 pub at_last : {X : Type 0} (all old new : List X) (x : X) → old ≡ new ++ x ∷ [] → IsPrefix old all → slice_get all (length new) ≡ Some x
-at_last all old new x e p = prefix_get old all (length new) x p (ap (λ l. slice_get l (length new)) e ∙ get_last new x)
+at_last all old new x e p = ap (λ l. slice_get l (length new)) (sym p.1)
+    ∙ get_left old p.0 (length new) x (ap (λ l. slice_get l (length new)) e ∙ get_last new x)
 
 pub back_more : {X : Type 0} (all : List X) (Q Q' : ℕ → X → Type 0) (n len : ℕ) (lane : X) → length all ≡ n → slice_get all len ≡ Some lane
     → ((k : ℕ) (x : X) → k < n → len < k → Q (n - 1 - k) x → Q' (n - 1 - k) x) → Q' (n - 1 - len) lane
@@ -76,12 +77,10 @@ is_back {K = K} outlet_told show outlets outlets' results published place k n m 
     let from : tap.universe - 1 ≡ place = omega (arith, universe) in
     let mine : sink ≡ start = same_Some sink start
     (same_Some (Some sink) (Some start) (sym t.place ∙ (ap (slice_get outlets) from ∙ is))) in
-    let told = g.delivered tap sink h in
     record {
       new = g.new;
       fault = g.fault;
       place_is = ap (slice_get outlets') (sym here) ∙ g.place_is;
       fault_is = ap (slice_get results) (sym here) ∙ g.fault_is;
-      delivered = subst (λ (w : K). Delivered outlet_told show (place + 1) w g.new published g.fault) mine
-          (subst (λ (v : ℕ). Delivered outlet_told show v sink g.new published g.fault) universe told);
+      delivered = rw (← mine, ← universe) (g.delivered tap sink h);
     }

@@ -1,15 +1,11 @@
 -- What a tap keeps grows.
-use Rattle.lx_workers.proofs.Imports.{◌≡◌, ℕ, ◌⊎◌, inl, inr, ⊎_elim, Bool, true, false, cond, ltb}
+use Rattle.lx_workers.proofs.Imports.{◌≡◌, ℕ, ◌⊎◌, inl, inr, ⊎_elim, true, false, cond, ltb}
 use Rattle.lx_workers.proofs.Imports.{List, length, sym, ap, subst, arith, IsPrefix, Rose, one_more, Command, longest, IsChained, Told, newest, HasReadOn}
 use Rattle.lx_workers.proofs.Imports.{HasMissed, HasLearnt, prefix_self, prefix_trans, HasLooked, HasTakenTimes, RoseOrSame}
 
-by_test : (b : Bool) (xs ys top : List Command) → IsPrefix xs top → IsPrefix ys top → IsPrefix (cond b ys xs) top
-by_test true xs ys top p q = q
-by_test false xs ys top p q = p
-
 -- what begins with two lists begins with the longer one
 pub longest_begins : (xs ys top : List Command) → IsPrefix xs top → IsPrefix ys top → IsPrefix (longest xs ys) top
-longest_begins xs ys top p q = by_test (ltb (length xs) (length ys)) xs ys top p q
+longest_begins xs ys top p q = elim (ltb (length xs) (length ys)) as (λ b. IsPrefix (cond b ys xs) top) [ true ↦ q | false ↦ p ]
 
 -- one change of a count after another
 pub rose_on : (a b c : ℕ) → RoseOrSame a b → Rose b c → Rose a c

@@ -54,15 +54,14 @@ served_none told show tap sink = record {
 }
 
 -- what was served up to a tap is served up to a later one
-pub served_on : {K : Type 0} (told : ToldBySink K) (show : Show) (start tap tap' : Tapped) (from sink : K) (served : Served) (takes : ℕ)
+pub served_on : {K : Type 0} {told : ToldBySink K} {show : Show} {start tap tap' : Tapped} {from sink : K} {served : Served} (takes : ℕ)
     → tap'.universe ≡ tap.universe → IsPrefix (newest tap.told) (newest tap'.told) → IsPrefix tap.told.seen tap'.told.seen
     → RoseOrSame tap.told.reads tap'.told.reads → RoseOrSame tap.told.misses tap'.told.misses
     → (HasTakenTimes start.told tap.told served.takes → HasTakenTimes start.told tap'.told takes)
     → HasServed told show start tap from sink served → HasServed told show start tap' from sink (record served { takes = takes })
-served_on told show start tap tap' from sink served takes u p seen reads misses asked h = record {
-  written = λ e. goes_on show start.universe (told.holds from) (told.holds sink) (newest tap.told) (newest tap'.told) served.taken served.last p
-      (h.written e);
-  part = λ f e. part_on told show start.universe from sink (newest tap.told) (newest tap'.told) f p (h.part f e);
+served_on {start} {tap} {tap'} takes u p seen reads misses asked h = record {
+  written = λ e. goes_on p (h.written e);
+  part = λ f e. part_on p (h.part f e);
   cause = h.cause;
   handed_on = h.handed_on;
   goes_on = prefix_trans (newest start.told) (newest tap.told) (newest tap'.told) h.goes_on p;
@@ -74,11 +73,12 @@ served_on told show start tap tap' from sink served takes u p seen reads misses 
 }
 
 -- a take, and the line of what was taken
-pub stepped : {K : Type 0} (told : ToldBySink K) (show : Show) (tap tap' : Tapped) (sink sink' : K) (served served' : Served) (takes : ℕ)
+pub stepped : {K : Type 0} {told : ToldBySink K} {show : Show} {tap tap' : Tapped} {sink sink' : K} {served served' : Served} (takes : ℕ)
     → takes ≡ one_more served.takes → tap'.universe ≡ tap.universe → IsPrefix (newest tap.told) (newest tap'.told) → HasTaken tap.told tap'.told
     → HasPutNewest told show tap' sink sink' (record served { takes = takes }) served' → HasStepped told show tap tap' sink sink' served served'
-stepped {K} told show tap tap' sink sink' served served' takes is u p t put =
-    let on = λ (start : Tapped) (from : K). served_on told show start tap tap' from sink served takes u p t.seen t.reads t.misses
+stepped {K} {told} {show} {tap} {tap'} {sink} {served} takes is u p t put =
+    let on = λ (start : Tapped) (from : K). served_on {told = told} {show = show} {start = start} {tap = tap} {tap' = tap'} {from = from} {sink = sink}
+    {served = served} takes u p t.seen t.reads t.misses
     (λ h. subst (λ (n : ℕ). HasTakenTimes start.told tap'.told n) (sym is) (takes_on start.told tap.told tap'.told served.takes h t)) in record {
       serves = λ start from h. put.serves start from (on start from h);
       goes_on = p;
@@ -89,14 +89,12 @@ stepped {K} told show tap tap' sink sink' served served' takes is u p t put =
     }
 
 -- the tap keeps nothing newer than the last line
-pub put_none : {K : Type 0} (told : ToldBySink K) (show : Show) (tap : Tapped) (sink : K) (served : Served) (count : ℕ)
-    → served.fault ≡ None → count ≡ length (newest tap.told) → IsSomeAnd served.last (λ n. count ≤ n)
-    → HasPutNewest told show tap sink sink served served
-put_none told show tap sink served count none is stale = record {
+pub put_none : {K : Type 0} {told : ToldBySink K} {show : Show} {tap : Tapped} {sink : K} {served : Served} (count : ℕ) → served.fault ≡ None
+    → count ≡ length (newest tap.told) → IsSomeAnd served.last (λ n. count ≤ n) → HasPutNewest told show tap sink sink served served
+put_none count none is stale = record {
   serves = λ start from h. h;
   takes = refl;
-  last = λ start from h e. last_stays show start.universe (told.holds from) (told.holds sink) (newest tap.told) served.taken served.last count is stale
-      (h.written none);
+  last = λ start from h e. last_stays count is stale (h.written none);
 }
 
 -- it does, and its line was put: it was written, or the sink failed in it

@@ -1,7 +1,7 @@
 -- Lines that are added to those of rising lists.
 use Rattle.lx_workers.proofs.Imports.{◌≡◌, ℕ, ◌<◌, ◌+◌, ◌-◌, ◌^◌, min, List, [], ◌∷◌, ◌++◌, length, take, Option, Some, None}
-use Rattle.lx_workers.proofs.Imports.{Result, Ok, Err, IfSome, IsSomeAnd, ◌≤◌, refl, sym, ap, ◌∙◌, subst, append-nil, arith, reverse, IsPrefix}
-use Rattle.lx_workers.proofs.Imports.{reverse-cons, Appends, Keeps, SinkFault, AppendsFront, HasSinkCause, Puts, Show, Command, version_text, versions_text}
+use Rattle.lx_workers.proofs.Imports.{Result, Ok, Err, IfSome, IsSomeAnd, ◌≤◌, refl, ap, ◌∙◌, subst, append-nil, arith, reverse, IsPrefix}
+use Rattle.lx_workers.proofs.Imports.{reverse-cons, Appends, Keeps, SinkFault, HasSinkCause, Puts, Show, Command, version_text, versions_text}
 use Rattle.lx_workers.proofs.Imports.{Stamp, IsFrame, prefix_self, prefix_trans, prefix_length, Older, Falling, newest_count, HasWritten, HasWrittenPart}
 use Rattle.lx_workers.proofs.Imports.{ToldBySink}
 use Rattle.std.proofs.KnownBytes.{Appends-nil, Appends-trans, Appends-kept}
@@ -31,10 +31,9 @@ falls_on top top' p [] h = tt
 falls_on top top' p (list ∷ lists) h = (prefix_trans list top top' h.0 p, h.1)
 
 -- no line was added
-pub goes_on : (show : Show) (u : ℕ) (before after : Option (List ℕ)) (top top' : List Command) (taken : ℕ) (last : Option ℕ)
-    → IsPrefix top top'
+pub goes_on : {show : Show} {u : ℕ} {before after : Option (List ℕ)} {top top' : List Command} {taken : ℕ} {last : Option ℕ} → IsPrefix top top'
     → HasWritten show u before after top taken last → HasWritten show u before after top' taken last
-goes_on show u before after top top' taken last p h =
+goes_on {top} {top'} p h =
     record { lists = h.lists; text = h.text; chain = falls_on top top' p h.lists h.chain; taken_is = h.taken_is; last_is = h.last_is }
 
 newer : (top : List Command) (last : Option ℕ) (lists : List (List Command)) → Falling top lists → last ≡ newest_count lists
@@ -53,29 +52,15 @@ pub adds_line : (show : Show) (u : ℕ) (before after after' : Option (List ℕ)
     → IfSome last (λ n. n < stamp.count) → HasWritten show u before after top taken last
     → HasWritten show u before after' top (min (taken + 1) (2 ^ 64 - 1)) (Some stamp.count)
 adds_line show u before after after' top taken last slots stamp frame is fresh h =
-    let added : Appends after after' (version_text show u top) =
-    subst (λ (w : List ℕ). Appends after after' w) (line_is show u top slots stamp frame) is in
+    let added : Appends after after' (version_text show u top) = rw (← line_is show u top slots stamp frame) is in
     record {
       lists = top ∷ h.lists;
-      text = subst (λ (w : List ℕ). Appends before after' w) (sym (lines-newest show u top h.lists))
+      text = rw (lines-newest show u top h.lists)
           (Appends-trans before after after' (outlet_text show u h.lists) (version_text show u top) h.text added);
       chain = chain_on show u before after top taken last stamp.count frame.count_is fresh h;
       taken_is = omega (arith, h.taken_is);
       last_is = ap (λ (n : ℕ). Some n) frame.count_is;
     }
-
--- the text up to a part of the line
-front_of : (show : Show) (u : ℕ) (before after after' : Option (List ℕ)) (list : List Command) (lists : List (List Command))
-    → Appends before after (outlet_text show u lists) → AppendsFront after after' (version_text show u list)
-    → AppendsFront before after' (outlet_text show u (list ∷ lists))
-front_of show u before after after' list lists h k =
-    let front = AppendsFront-is after after' (version_text show u list) k in
-    let lines = outlet_text show u lists in
-    let text : Appends before after' (lines ++ take front.0 (version_text show u list)) =
-    Appends-trans before after after' lines (take front.0 (version_text show u list)) h front.1 in
-    subst (λ (w : List ℕ). AppendsFront before after' w) (sym (lines-newest show u list lists))
-    (AppendsFront-from before after' (lines ++ version_text show u list) (length lines + front.0)
-    (subst (λ (w : List ℕ). Appends before after' w) (sym (take-append-add lines (version_text show u list) front.0)) text))
 
 -- a part of the line was added, and then the sink had a fault
 pub adds_part : {K : Type 0} (told : ToldBySink K) (show : Show) (u : ℕ) (from sink sink' : K) (top : List Command) (taken : ℕ)
@@ -85,21 +70,25 @@ pub adds_part : {K : Type 0} (told : ToldBySink K) (show : Show) (u : ℕ) (from
 adds_part told show u from sink sink' top taken last slots stamp fault frame is fresh h =
     let stopped : Puts {T = Unit {0}} told sink sink' (Err fault) (version_text show u top) =
     subst (λ (w : List ℕ). Puts {T = Unit {0}} told sink sink' (Err fault) w) (line_is show u top slots stamp frame) is in
+    let lines = outlet_text show u h.lists in
+    let line = version_text show u top in
+    let front = AppendsFront-is (told.holds sink) (told.holds sink') line stopped.part in
     record {
       newest = top;
       earlier = h.lists;
       chain = chain_on show u (told.holds from) (told.holds sink) top taken last stamp.count frame.count_is fresh h;
-      text = front_of show u (told.holds from) (told.holds sink) (told.holds sink') top h.lists h.text stopped.part;
+      text = rw (lines-newest show u top h.lists)
+          (AppendsFront-from (told.holds from) (told.holds sink') (lines ++ line) (length lines + front.0) (rw (take-append-add lines line front.0)
+          (Appends-trans (told.holds from) (told.holds sink) (told.holds sink') lines (take front.0 line) h.text front.1)));
       last = sink;
       whole = h.text;
       stopped = stopped;
     }
 
 -- nothing more was written, and the list that the lines lead up to went on
-pub part_on : {K : Type 0} (told : ToldBySink K) (show : Show) (u : ℕ) (from sink : K)
-    (top top' : List Command) (fault : SinkFault) → IsPrefix top top'
-    → HasWrittenPart told show u from sink top fault → HasWrittenPart told show u from sink top' fault
-part_on told show u from sink top top' fault p h = record {
+pub part_on : {K : Type 0} {told : ToldBySink K} {show : Show} {u : ℕ} {from sink : K} {top top' : List Command} {fault : SinkFault}
+    → IsPrefix top top' → HasWrittenPart told show u from sink top fault → HasWrittenPart told show u from sink top' fault
+part_on {top} {top'} p h = record {
   newest = h.newest;
   earlier = h.earlier;
   chain = falls_on top top' p (h.newest ∷ h.earlier) h.chain;
@@ -122,9 +111,9 @@ whole top last (list ∷ lists) count h e c k =
     e ∙ ap (λ (n : ℕ). Some n) same
 
 -- where nothing newer was taken, the last line is that of the newest list
-pub last_stays : (show : Show) (u : ℕ) (before after : Option (List ℕ)) (top : List Command) (taken : ℕ) (last : Option ℕ) (count : ℕ)
+pub last_stays : {show : Show} {u : ℕ} {before after : Option (List ℕ)} {top : List Command} {taken : ℕ} {last : Option ℕ} (count : ℕ)
     → count ≡ length top → IsSomeAnd last (λ n. count ≤ n) → HasWritten show u before after top taken last → last ≡ Some (length top)
-last_stays show u before after top taken last count c k h = whole top last h.lists count h.chain h.last_is c k
+last_stays {top} {last} count c k h = whole top last h.lists count h.chain h.last_is c k
 
 -- a flush puts nothing more
 flushed : {K U : Type 0} (told : ToldBySink K) (a b : K) (r : Result U SinkFault) → Keeps (told.holds a) (told.holds b)

@@ -2,4 +2,4 @@ use Rattle.lx_text_laws.proofs.WholeText.{reads_back}
 use Rattle.lx_text_laws.proofs.round_trip.Goals as goal
 
 pub returns : goal.returns
-returns _ = λ show valid. reads_back show valid
+returns _ = reads_back

@@ -16,6 +16,5 @@ returns-clause-answered g c =
     ] in
     λ ample stood d popped start so_far.
     answered_entry ample (g.H.Heap.refusals c.args.heap.now) (g.H.Heap.refusals c.answer_line.new.heap) g.K.Sink c.args.sink.now
-    c.answer_line.new.sink c.answer_line.result d popped start _ _ c.args.tally.now c.answer_line.new.tally c.args.entry.now
-    (option_copied c.match-entry.line) c.args.output.now _ said (none_is c.args.output.now c.if-is_some.ensures) c.err.ensures.value stood
-    c.answer_line.ensures.answered so_far
+    c.answer_line.new.sink d popped start _ _ c.args.tally.now c.answer_line.new.tally said
+    (none_is c.args.output.now c.if-is_some.ensures) c.err.ensures.value stood c.answer_line.ensures.answered so_far

@@ -1,6 +1,6 @@
 use Rattle.lx_crew.proofs.Imports.{rules, [], ◌∷◌, ◌++◌, slice_get, ap, sym, ◌∙◌, arith, Counts, stood_since, stood_until}
 use Rattle.lx_crew.proofs.AnswerProgress.{answered_none}
-use Rattle.lx_crew.proofs.EngineSteps.{takes_on, ended_on, cause_none, cause_then, answered_same}
+use Rattle.lx_crew.proofs.EngineSteps.{ended_on, cause_none, cause_then, answered_same}
 use Rattle.lx_crew.proofs.engine.serve.Goals as goal
 
 pub loop-init : goal.loop-init
@@ -60,7 +60,7 @@ loop-preserved g c =
       finite = tt;
       same = search rules;
       popped = i.popped ++ t.entry ∷ [];
-      view = takes_on _ _ _ _ _ i.view t.takes;
+      view = rw i.view at t.takes;
       ended = ended_on _ _ _ _ t.marked i.ended;
       later = omega (arith, i.later, c.take_one.ensures.later);
       answered = λ ample stood d stands. t.answered ample (λ is. stood_since _ _ _ i.later (stood is)) d i.popped _

@@ -1,16 +1,10 @@
-use Rattle.lx_crew.proofs.Imports.{rules, ◌≡◌, ◌+◌, ◌<◌, ℕ, [], length, refl, ap, sym, ◌∙◌, length-set, arith, length_push, IsPassOf}
-use Rattle.lx_crew.proofs.Imports.{View, engine_view, operator_view, Hired}
+use Rattle.lx_crew.proofs.Imports.{rules, ◌+◌, ◌<◌, ℕ, length, refl, ap, sym, ◌∙◌, length-set, arith, length_push, IsPassOf}
+use Rattle.lx_crew.proofs.Imports.{View, Hired}
 use Rattle.lx_crew.proofs.Rules.{forks}
 use Rattle.lx_base.proofs.Places.{each_snoc}
 use Rattle.lx_work.proofs.Places.{get-set_other}
 use Rattle.lx_crew.proofs.Works.{some_there, not_none, source_is}
 use Rattle.lx_crew.proofs.running.hire.Goals as goal
-
-made_more : (v w : View) (n : ℕ) → v ≡ engine_view n [] [] → w ≡ record v { made = v.made + 1 } → w ≡ engine_view (n + 1) [] []
-made_more v w n h i = i ∙ ap (λ (u : View). record u { made = u.made + 1 }) h
-
-fresh_is : (v w : View) (n : ℕ) → v ≡ engine_view n [] [] → w ≡ operator_view v.made [] → w ≡ operator_view n []
-fresh_is v w n h i = i ∙ ap (λ (u : View). operator_view u.made []) h
 
 pub unreachable-requires : goal.unreachable-requires
 unreachable-requires g c =
@@ -31,7 +25,7 @@ loop-place-preserved g c =
     let k = c.loop-place.place in
     let inside : k < length c.loop-place.operators = omega (arith, c.loop-place-test.true, i.all) in record {
       same = search rules;
-      knows = made_more _ _ _ i.knows c.another-theirs.ensures.rule.0;
+      knows = rw i.knows at c.another-theirs.ensures.rule.0;
       len = omega (arith, c.push_reserved.ensures.len, i.len);
       count = ap length c.push_reserved.ensures.items ∙ (length_push c.loop-place.works.items _ ∙ ap (λ (n : ℕ). n + 1) i.count);
       room = omega (arith, c.push_reserved.ensures.capacity, i.room);
@@ -39,7 +33,7 @@ loop-place-preserved g c =
       each = rw c.push_reserved.ensures.items (each_snoc (Hired (IsPassOf c.args.queue.now) c.args.operators.now) c.loop-place.works.items _ k i.each (sym i.count) (record {
         its = c.another-theirs.ensures.queue.1;
         own_queue = c.another-theirs.ensures.queue.1;
-        fresh = fresh_is _ _ _ i.knows c.another-theirs.ensures.rule.1;
+        fresh = rw i.knows at c.another-theirs.ensures.rule.1;
         place = refl;
         source = source_is c.loop-place.operators c.args.operators.now k x.result c.in-Some.source inside x.is (i.rest k (omega arith))
             (sym c.take.ensures.value ∙ c.in-Some.is);

@@ -1,12 +1,8 @@
 use Rattle.lx_crew.proofs.Imports.{rules, ◌≡◌, ◌+◌, ◌≤◌, ℕ, zero, suc, List, [], ◌++◌, ◌∷◌, length, map, Some, None, slice_get}
-use Rattle.lx_crew.proofs.Imports.{refl, ap, sym, ◌∙◌, length-set, arith, length_push, slice_get_within, view, Message, Operator, View, owned}
+use Rattle.lx_crew.proofs.Imports.{refl, ap, sym, ◌∙◌, length-set, arith, length_push, slice_get_within, view, Operator, View, owned}
 use Rattle.lx_crew.proofs.Rules.{merges}
 use Rattle.lx_crew.proofs.Works.{each_init, map_snoc, told_more, none_more}
 use Rattle.lx_crew.proofs.running.release.Goals as goal
-
-keeps_more : (v w u : View) (kept : List (ℕ × List Message)) (p : ℕ × List Message) → v ≡ record u { kept = kept }
-    → w ≡ record v { kept = p ∷ v.kept } → w ≡ record u { kept = p ∷ kept }
-keeps_more v w u kept p h i = i ∙ ap (λ (x : View). record x { kept = p ∷ x.kept }) h
 
 none_past : {A B : Type 0} (xs : List A) (k : ℕ) (x : A) → slice_get xs k ≡ Some x → length xs ≤ k → B
 none_past xs k x at after = absurd (let t = slice_get_within xs k x at in omega (arith, t, after))
@@ -70,7 +66,7 @@ loop-work-preserved g c =
     record {
       same = search rules;
       kept = owned work ∷ i.kept;
-      knows = keeps_more _ _ (view c.args.pass.now) i.kept (owned work) i.knows c.absorb.ensures.rule;
+      knows = rw i.knows at c.absorb.ensures.rule;
       lists = sym (map_snoc owned items work i.kept) ∙
           (ap (λ (ws : List _). map owned ws ++ i.kept) (sym c.in-Some.ensures.items) ∙ i.lists);
       works = t.0;

@@ -8,7 +8,8 @@ returns-in-Ok g c =
     let l = c.new-lines.ensures in
     let r = c.in-Ok.ensures in
     told_does g.S.Source c.new-lines.result c.read_show_in.new.lines l.source l.unread l.taken (check_tells c.args.form) r.answer
-    (c.input-1.given.1 (sym (r.same_reference ∙ l.same_reference))) (r.kept (λ odd. cc)) r.cause.later (c.tell.ensures (g.H.Heap.refusals c.read_show_in.new.heap))
+    (c.input-1.given.1 (sym (r.same_reference ∙ l.same_reference))) (r.kept (λ odd. cc)) r.cause.later
+    (c.finish.ensures (g.H.Heap.refusals c.read_show_in.new.heap) c.args.output.now _ c.put_size.ensures)
 
 pub returns-in-Err : goal.returns-in-Err
 returns-in-Err g c =

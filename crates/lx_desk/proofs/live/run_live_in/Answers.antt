@@ -1,6 +1,6 @@
 use Rattle.lx_desk.proofs.Imports.{EndsJob, EndsScript, inl, inr, refl, arith, stood_since, sym, ap, ◌∙◌, subst, Err}
 use Rattle.lx_desk.proofs.Finishing.{as_live_cause, finishes_as, refused_accounts, rose_since}
-use Rattle.lx_desk.proofs.Inputs.{all_known, refusal_isnt_ok}
+use Rattle.lx_desk.proofs.Inputs.{refusal_isnt_ok}
 use Rattle.lx_desk.proofs.Endings.{refusal_ends}
 use Rattle.lx_desk.proofs.LiveEnds.{live_ended, live_order, order_refused, refused_lived}
 use Rattle.lx_desk.proofs.live.run_live_in.Goals as goal
@@ -17,8 +17,8 @@ returns-in-Ok g c =
       ended = λ ample stood sent. rw (same, ← l.unread) (live_ended r.answer l.taken ample g.K.Sink c.args.universes _ _ _ _ _ _
           (p.ended ample (λ is. stood_since _ _ _ r.cause.later (stood is)) sent));
       cause = rw (same, ← kept) p.cause;
-      order = λ ample stood sent. rw (same, ← l.unread) (live_order r.answer l.taken ample g.K.Sink c.args.universes _ _ _ _ _ _ _ _ _ _ _
-          kept (p.order ample (λ is. stood_since _ _ _ r.cause.later (stood is)) sent));
+      order = λ ample stood sent. rw (same, ← kept, ← l.unread) (live_order r.answer l.taken ample g.K.Sink c.args.universes _ _ _ _ _ _ _ _ _ _
+          (p.order ample (λ is. stood_since _ _ _ r.cause.later (stood is)) sent));
       finished = rw same (finishes_as (λ done. p.finished.reads_kept done ∙ kept) p.finished);
       wanted = λ is. elim (p.wanted is) [
         | inl heaps ↦ inl (elim heaps [ inl refused ↦ inl (rose_since _ _ _ r.cause.later refused) | inr writer ↦ inr writer ])
@@ -45,8 +45,8 @@ returns-in-Err g c =
       );
       ended = λ ample stood sent. rw (same, ← l.unread) (refused_lived ample c.args.form c.args.universes g.S.Source g.K.Sink c.new-lines.result
           c.read_show_in.new.lines c.args.outlets.now c.refuse.result l.taken r.answer t.refused);
-      cause = rw (same, ← before) (as_live_cause g.K.Sink c.refuse.result _ _ _ _ _ _ a.cause);
-      order = λ ample stood sent. all_known _ _ (λ x. order_refused c.refuse.result _ _ g.O.Sink _ _ c.args.outlets.now _ t.write t.memory);
+      cause = rw (same, ← before) (as_live_cause g.K.Sink c.refuse.result _ _ _ _ _ _ (λ is. refl) a.cause);
+      order = λ ample stood sent. order_refused c.refuse.result _ _ g.O.Sink _ _ c.args.outlets.now _ t.write t.memory;
       finished = rw (same, ← before) a.finished;
       wanted = λ is. elim (a.wanted is) [ inl refused ↦ inl (inl refused) | inr sink ↦ inr (inl sink) ];
       later = r.cause.later;

@@ -11,12 +11,12 @@ returns-in_default g c = not_told c.in_default.ensures.cause.later c.in_default.
 pub returns-in-Ok-session_in : goal.returns-in-Ok-session_in
 returns-in-Ok-session_in g c =
     let s = c.in-Ok-session_in.ensures in
-    let t = c.tell.ensures (g.H.Heap.refusals c.session_in.new.heap) in
+    let t = c.finish.ensures (g.H.Heap.refusals c.session_in.new.heap) c.args.output.now _ c.put_report.ensures in
     record {
-      works = by_kind status.Ok c.tell.result EndsScript t.kinds tt tt tt;
+      works = by_kind status.Ok c.finish.result EndsScript t.kinds tt tt tt;
       ended = λ ample stood.
           session_told c.args.cues _ (opened c.args.show) _ _ _ _ _ c.in-Ok-session_in.tally c.report_on.result c.report_on.ensures ample _ _
-          c.tell.result t.kinds t.whole t.front
+          c.finish.result t.kinds t.whole t.front
           (s.outcome ample (λ is. stood_since _ _ _ c.in-Ok.ensures.cause.later (stood is)) (opened c.args.show) c.in-Ok.ensures.stands) s.limit;
       accounts = accounts_since (omega (arith, c.in-Ok.ensures.cause.later, s.later)) s.cause.kept.0
           (t.accounts (g.S.Source.faults c.session_in.new.lines.source.now));

@@ -1,11 +1,11 @@
 use Rattle.lx_desk.proofs.Imports.{refl, sym, ap, ◌∙◌, false, if◌then◌else◌, None, Some, Script}
 use Rattle.lx_desk.specs.declared.desk.Status.TheVariants as status
 use Rattle.lx_desk.proofs.Inputs.{all_known, unwritten}
-use Rattle.lx_desk.proofs.Jobs.{words_of}
+use Rattle.lx_desk.proofs.Jobs.{done_here}
 use Rattle.lx_desk.proofs.script.script.Goals as goal
 
-pub returns-clause-words : goal.returns-clause-words
-returns-clause-words g c = words_of refl (ap (λ b. if b then Some status.Live else None) (sym c.is_live.ensures ∙ c.if-is_live.false))
+pub returns-clause-answered : goal.returns-clause-answered
+returns-clause-answered g c = done_here refl (ap (λ b. if b then Some status.Live else None) (sym c.is_live.ensures ∙ c.if-is_live.false))
     c.read_and_play.ensures.works
 
 pub returns-then-is_live-clause-prefix : goal.returns-then-is_live-clause-prefix

@@ -1,8 +1,8 @@
-use Rattle.lx_edit.proofs.Imports.{◌≡◌, ◌∙◌, ap, sym, None, Some, List, [], length, nil_from_length, eq_from, option_copied, Move, Cue}
+use Rattle.lx_edit.proofs.Imports.{◌≡◌, ◌∙◌, ap, sym, None, Some, List, [], length, nil_from_length, eq_from, option_copied, rules, Move, Cue}
 use Rattle.lx_edit.proofs.Imports.{with_cue, with_moves, changed_show}
 use Rattle.lx_edit.proofs.CueLevels.{chosen_fit}
-use Rattle.lx_edit.proofs.KeptLevels.{above_fits, above_is, cue_only_is}
-use Rattle.lx_edit.proofs.KeptRows.{keeps_above}
+use Rattle.lx_edit.proofs.KeptLevels.{cue_only_is}
+use Rattle.lx_edit.proofs.KeptRows.{IsKept, kept_is}
 use Rattle.lx_edit.proofs.NothingKept.{above_again}
 use Rattle.lx_edit.proofs.kept.kept_above.Goals as goal
 
@@ -26,32 +26,16 @@ pub with_moves-requires-clause-fits : goal.with_moves-requires-clause-fits
 with_moves-requires-clause-fits g c = rw (c.channels.ensures.channels, c.as_slice-moves.ensures.value, c.in_ok-moves.ensures.items)
     (chosen_fit c.args.show.now c.in-Some.above.now.parts _ _ c.in-Some.ensures.valid.first_part)
 
-pub returns-clause-above : goal.returns-clause-above
-returns-clause-above g c =
-    let show = c.args.show.now in
-    let new = option_copied c.args.new in
-    rw c.if-not-only.false (ap (with_cue (changed_show show c.args.n new)) (c.in_ok-with_moves.ensures.cue
-    ∙ ap (with_moves c.in-Some.above.now) (c.as_slice-moves.ensures.value ∙ c.in_ok-moves.ensures.items))
-    ∙ sym (cue_only_is show c.args.n new (Some c.in-Some.above.now) c.requires.number (sym c.in-Some.ensures.above)))
-
-pub returns-clause-valid : goal.returns-clause-valid
-returns-clause-valid g c =
-    above_fits c.args.show.now c.args.n (option_copied c.args.new) c.in-Some.above.now _
-    c.requires.number (sym c.in-Some.ensures.above) (ap (λ (cue : Cue). cue.number) c.in_ok-with_moves.ensures.cue)
+pub returns : goal.returns
+returns g c =
+    let kept : IsKept c.args.show.now c.args.n (option_copied c.args.new) c.in_ok-with_moves.field-0 =
+    kept_is (option_copied c.args.new) c.in_ok-with_moves.field-0 c.requires.there c.requires.number (sym c.in-Some.ensures.above)
     (rw c.channels.ensures.channels at c.in_ok-with_moves.ensures.valid)
-
-pub returns-clause-higher : goal.returns-clause-higher
-returns-clause-higher g c =
-    above_is c.args.show.now c.args.n c.in-Some.above.now c.in_ok-with_moves.field-0
-    (ap (λ (cue : Cue). cue.number) c.in_ok-with_moves.ensures.cue) (sym c.in-Some.ensures.above)
-
-pub returns-clause-keeps : goal.returns-clause-keeps
-returns-clause-keeps g c =
-    let show = c.args.show.now in
-    let new = option_copied c.args.new in
-    let above : Cue = c.in-Some.above.now in
-    keeps_above show c.args.n new c.args.old.now above c.in_ok-with_moves.field-0 c.requires.there c.requires.number
-    (sym c.in-Some.ensures.above) (ap (λ (cue : Cue). cue.number) c.in_ok-with_moves.ensures.cue)
-    (ap (with_cue (changed_show show c.args.n new)) (c.in_ok-with_moves.ensures.cue
-    ∙ ap (with_moves above) (c.as_slice-moves.ensures.value ∙ c.in_ok-moves.ensures.items))
-    ∙ sym (cue_only_is show c.args.n new (Some above) c.requires.number (sym c.in-Some.ensures.above)))
+    (c.in_ok-with_moves.ensures.cue ∙ ap (with_moves c.in-Some.above.now) (c.as_slice-moves.ensures.value ∙ c.in_ok-moves.ensures.items)) in
+    record {
+      above = rw c.if-not-only.false kept.above;
+      valid = kept.fits;
+      higher = kept.higher;
+      keeps = kept.keeps;
+      cause = search rules;
+    }

@@ -11,8 +11,7 @@ returns-then-is_err-clause-ticks c = λ d stands.
     omega (arith, c.ticks.invariant.most, c.pass-left.ensures.most) in
     let same : c.tick.new.self ≡ c.pass-left.new.self =
     if_refused c.tick.result (sym c.is_err.ensures.value ∙ c.if-is_err.true) c.tick.ensures.unchanged in
-    subst (λ (m : ℕ). IsOkAnd (after_ticks m d) (λ next. StandsFor next c.tick.new.self)) count
-    (subst (λ (k : Kept). IsOkAnd (after_ticks (c.args.n - c.ticks.left + c.pass-left.result) d) (λ next. StandsFor next k)) (sym same) more)
+    rw (← count, same) more
 
 pub ticks-preserved-then-left-gt0 : goal.ticks-preserved-then-left-gt0
 ticks-preserved-then-left-gt0 c = record {

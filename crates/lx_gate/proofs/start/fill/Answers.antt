@@ -1,12 +1,10 @@
-use Rattle.lx_gate.proofs.Imports.{◌+◌, ◌∷◌, [], length, length-append, arith, sym, ap, ◌∙◌, IsNewTap}
-use Rattle.lx_gate.proofs.DarkDesk.{dark}
+use Rattle.lx_gate.proofs.Imports.{◌∷◌, [], length, length-append, arith, sym, ap, ◌∙◌, IsNewTap}
 use Rattle.lx_base.proofs.Places.{each_snoc}
 use Rattle.lx_gate.proofs.FirstVersion.{first_frame, new_tap}
 use Rattle.lx_gate.proofs.start.fill.Goals as goal
 
 pub new-requires-clause-opening : goal.new-requires-clause-opening
-new-requires-clause-opening g c = first_frame _ (c.loop-place.place + 1) (omega arith) (omega (arith, c.requires.high))
-    (dark _ c.requires.valid)
+new-requires-clause-opening g c = first_frame _ _ c.requires.valid
 
 pub loop-place-preserved : goal.loop-place-preserved
 loop-place-preserved g c = record {

@@ -1,5 +1,4 @@
-use Rattle.lx_levels.proofs.Imports.{◌≡◌, ◌≤◌, ◌<◌, ◌⊎◌, ◌∙◌, sym, ap, subst, arith, Fade, stack_at, stack_column, NEVER}
-use Rattle.lx_levels.proofs.Imports.{newest_begun, newest_waits}
+use Rattle.lx_levels.proofs.Imports.{◌≡◌, ◌≤◌, ◌<◌, ◌⊎◌, ◌∙◌, sym, ap, subst, arith, Fade, stack_at, stack_column, NEVER, newest_begun, newest_waits}
 use Rattle.lx_levels.proofs.Columns.{before_lesser, newest_read}
 use Rattle.lx_levels.proofs.racks.governing_in.Goals as goal
 

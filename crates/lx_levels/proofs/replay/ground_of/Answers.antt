@@ -1,5 +1,4 @@
-use Rattle.lx_levels.proofs.Imports.{◌≡◌, ◌+◌, ◌-◌, ◌<◌, ℕ, List, length, take, reverse, sym, subst}
-use Rattle.lx_levels.proofs.Imports.{arith, Run, last_cue, ValidRun}
+use Rattle.lx_levels.proofs.Imports.{◌≡◌, ◌+◌, ◌-◌, ◌<◌, ℕ, List, length, take, reverse, sym, subst, arith, Run, last_cue, ValidRun}
 use Rattle.lx_levels.proofs.RunsInTurn.{target_of, known_more, later_more, begun_more, hidden, all_valid}
 use Rattle.lx_levels.proofs.replay.ground_of.Goals as goal
 
@@ -33,7 +32,8 @@ loop-left-preserved c =
       within = omega (arith, lt);
       at = c.level_there-looks.ensures;
       known = known_more show base live c.args.c next lt is known act old.known this within;
-      later = later_more show base live c.args.c next lt is known act c.loop-left.since c.requires.order old.known this old.later c.in-Some.ensures.since within;
+      later = later_more show base live c.args.c next lt is known act c.loop-left.since c.requires.order old.known this old.later
+          c.in-Some.ensures.since within;
       begun = begun_more show base live c.args.c next lt is act this c.in-Some.ensures.since old.begun started.started;
     }
 
@@ -49,7 +49,8 @@ returns-in_default-clause-ground c =
     record {
       stays = record {
         since = c.loop-left.since;
-        gives = hidden c.args.show.now base live c.args.c next lt c.index-live-i.is c.act_of-act.result old.at this (c.since_before.ensures.over c.in_default.is);
+        gives = hidden c.args.show.now base live c.args.c next lt c.index-live-i.is c.act_of-act.result old.at this
+            (c.since_before.ensures.over c.in_default.is);
         later = old.later;
         begun = old.begun;
       };

@@ -1,5 +1,5 @@
-use Rattle.lx_levels.proofs.Imports.{◌≡◌, ◌<◌, ◌≤◌, ◌∙◌, ℕ, List, length, take, reverse, get_or, ap, sym}
-use Rattle.lx_levels.proofs.Imports.{arith, Option, None, length-set, get_or_default, common_steps, Run, level, Stack, no_stack, Act}
+use Rattle.lx_levels.proofs.Imports.{◌≡◌, ◌<◌, ◌≤◌, ◌∙◌, ℕ, List, length, take, reverse, get_or, ap, sym, arith, Option, None, length-set}
+use Rattle.lx_levels.proofs.Imports.{get_or_default, common_steps, Run, level, Stack, no_stack, Act}
 use Rattle.lx_levels.proofs.Written.{set_again, set_here, set_there}
 use Rattle.lx_levels.proofs.RunsInTurn.{no_run, replayed_on, replayed_off}
 use Rattle.lx_levels.proofs.replay.replay.Goals as goal

@@ -1,4 +1,4 @@
-use Rattle.lx_lists.proofs.Imports.{◌≡◌, ◌∙◌, Option, None, true, ap, sym, subst, LineState, Refusal, Attempted}
+use Rattle.lx_lists.proofs.Imports.{◌≡◌, ◌∙◌, None, ap, sym, LineState}
 use Rattle.lx_session.proofs.Commands.{wants_none}
 use Rattle.lx_session.proofs.AttemptSteps.{nothing_yet}
 use Rattle.lx_lists.proofs.NextAttempt.{one_second, second_attempted}
@@ -6,11 +6,9 @@ use Rattle.lx_lists.proofs.attempts.attempt_second.Goals as goal
 
 pub returns-in-Some-clause-tried : goal.returns-in-Some-clause-tried
 returns-in-Some-clause-tried g c = λ s stands.
-    let command = c.in-Some.command.now in
-    let now = c.second_in.new.self in
     one_second c.requires.start (sym c.in-Some.ensures) stands
-    (λ x stand. subst (λ (r : Option Refusal). Attempted true x.second command r now.second) (sym c.err-refusal.ensures.value)
-    (second_attempted x command c.second_in.result c.args.desk.now now stand (c.second_in.ensures.steps x stand) c.second_in.ensures.unchanged))
+    (λ x stand. rw c.err-refusal.ensures.value
+    (second_attempted c.in-Some.command.now stand (c.second_in.ensures.steps x stand) c.second_in.ensures.unchanged))
     c.second_in.ensures.other c.attempted.ensures
 
 pub returns-in_default-clause-tried : goal.returns-in_default-clause-tried

@@ -1,5 +1,4 @@
-use Rattle.lx_patch.proofs.Imports.{ℕ, ◌-◌, ◌+◌, ◌≡◌, get_or, ◌∙◌, ap, arith, get_or-put_chunk_above, scaled, stored_below, stored_at}
-use Rattle.lx_patch.proofs.Imports.{loaded}
+use Rattle.lx_patch.proofs.Imports.{ℕ, ◌-◌, ◌+◌, ◌≡◌, get_or, ◌∙◌, ap, arith, get_or-put_chunk_above, scaled, stored_below, stored_at, loaded}
 use Rattle.lx_patch.proofs.slots.fill_block.Goals as goal
 
 pub returns-clause-before : goal.returns-clause-before

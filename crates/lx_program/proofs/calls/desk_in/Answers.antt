@@ -1,10 +1,10 @@
-use Rattle.lx_program.proofs.Imports.{◌≡◌, List, ℕ, map, string_bytes, refl, inl, true, false, Option, Some, None, IfSome, Job, job_of, unwritten}
+use Rattle.lx_program.proofs.Imports.{◌≡◌, map, string_bytes, refl, inl, true, false, Option, Some, None, IfSome, Job, job_of, unwritten}
 use Rattle.std.proofs.Common.{◌⊎◌, inr}
-use Rattle.lx_desk.specs.Output.{WritesFront, WritesPrefix}
-use Rattle.lx_desk.specs.Endings.{AnswersWords, HasEnded, HasEndedBy, at_once}
+use Rattle.std.proofs.lemmas.Option.{IfSome_then}
+use Rattle.lx_desk.specs.Endings.{AnswersJob, AnswersWords, at_once}
 use Rattle.lx_desk.specs.declared.desk.Status.{Status}
 use Rattle.lx_desk.specs.declared.desk.Status.TheVariants as status
-use Rattle.lx_program.proofs.JobWords.{of_job, of_each_job}
+use Rattle.lx_program.proofs.JobWords.{of_each_job}
 use Rattle.lx_program.proofs.calls.desk_in.Goals as goal
 
 -- Memory is an answer to any words, where nothing was read or written
@@ -19,25 +19,26 @@ unread job input output = record {
   only = λ is. elim is [ inl usage ↦ absurd cc | inr live ↦ absurd cc ];
 }
 
+-- and what a job is answered with is an answer to the words that name it
+as_words : {I O : Type 0} (job : Job) {s : Status} {input input' : I} {output output' : O} → AnswersJob job s input input' output output'
+    → AnswersWords (Some job) s input input' output output'
+as_words job w = record { at = IfSome_then (at_once (Some job)) w.at (λ answer a. (inl a.0, a.1)); only = w.only }
+
+pub returns-in-Ok-clause-words : goal.returns-in-Ok-clause-words
+returns-in-Ok-clause-words g c = rw c.in-Ok.ensures.job (as_words _ c.run_job_in.ensures.answered)
+
 pub returns-in-Err-Memory-clause-words : goal.returns-in-Err-Memory-clause-words
 returns-in-Err-Memory-clause-words g c = unread (job_of (map string_bytes c.args.words.now)) c.args.input.now c.args.output.now
 
 pub returns-in-Ok-clause-ended : goal.returns-in-Ok-clause-ended
-returns-in-Ok-clause-ended g c =
-    of_job (map string_bytes c.args.words.now) (g.S.Source.left c.args.input.now)
-    (λ (job : Job) (bytes : List ℕ). HasEnded c.run_job_in.result job bytes (g.S.Source.left c.run_job_in.new.input)
-    (g.K.Sink.holds c.args.output.now) (g.K.Sink.holds c.run_job_in.new.output)) c.in-Ok.job c.in-Ok.ensures.job c.run_job_in.ensures.ended
+returns-in-Ok-clause-ended g c = rw c.in-Ok.ensures.job c.run_job_in.ensures.ended
 
 pub returns-in-Ok-clause-prefix : goal.returns-in-Ok-clause-prefix
-returns-in-Ok-clause-prefix g c =
-    of_job (map string_bytes c.args.words.now) (g.S.Source.left c.args.input.now)
-    (λ (job : Job) (bytes : List ℕ). WritesPrefix job bytes (g.K.Sink.holds c.args.output.now) (g.K.Sink.holds c.run_job_in.new.output))
-    c.in-Ok.job c.in-Ok.ensures.job c.run_job_in.ensures.prefix
+returns-in-Ok-clause-prefix g c = rw c.in-Ok.ensures.job c.run_job_in.ensures.prefix
 
 pub returns-in-Err-Memory-clause-ended : goal.returns-in-Err-Memory-clause-ended
 returns-in-Err-Memory-clause-ended g c =
-    of_each_job (job_of (map string_bytes c.args.words.now)) (g.S.Source.left c.args.input.now)
-    (λ (job : Job) (bytes : List ℕ). WritesPrefix job bytes (g.K.Sink.holds c.args.output.now) (g.K.Sink.holds c.args.output.now))
+    of_each_job (job_of (map string_bytes c.args.words.now)) (g.S.Source.left c.args.input.now) _
     (λ job bytes. unwritten false job bytes (g.K.Sink.holds c.args.output.now))
 
 pub returns-in-Err-Memory-clause-prefix : goal.returns-in-Err-Memory-clause-prefix
@@ -46,19 +47,14 @@ returns-in-Err-Memory-clause-prefix g c =
     (λ job bytes. unwritten false job bytes (g.K.Sink.holds c.args.output.now))
 
 pub returns-in-Ok-clause-spared : goal.returns-in-Ok-clause-spared
-returns-in-Ok-clause-spared g c = λ stood.
-    of_job (map string_bytes c.args.words.now) (g.S.Source.left c.args.input.now)
-    (λ (job : Job) (bytes : List ℕ). HasEndedBy true c.run_job_in.result job bytes (g.S.Source.left c.run_job_in.new.input)
-    (g.K.Sink.holds c.args.output.now) (g.K.Sink.holds c.run_job_in.new.output)) c.in-Ok.job c.in-Ok.ensures.job
-    (c.run_job_in.ensures.spared stood)
+returns-in-Ok-clause-spared g c = λ stood. rw c.in-Ok.ensures.job (c.run_job_in.ensures.spared stood)
 
 pub returns-in-Ok-clause-wanted : goal.returns-in-Ok-clause-wanted
 returns-in-Ok-clause-wanted g c = λ is. inr (c.run_job_in.ensures.wanted is)
 
 pub returns-in-Err-Memory-clause-spared : goal.returns-in-Err-Memory-clause-spared
 returns-in-Err-Memory-clause-spared g c = λ stood.
-    of_each_job (job_of (map string_bytes c.args.words.now)) (g.S.Source.left c.args.input.now)
-    (λ (job : Job) (bytes : List ℕ). WritesFront true job bytes (g.K.Sink.holds c.args.output.now) (g.K.Sink.holds c.args.output.now))
+    of_each_job (job_of (map string_bytes c.args.words.now)) (g.S.Source.left c.args.input.now) _
     (λ job bytes. unwritten true job bytes (g.K.Sink.holds c.args.output.now))
 
 pub returns-in-Err-Memory-clause-wanted : goal.returns-in-Err-Memory-clause-wanted

@@ -1,8 +1,7 @@
-use Rattle.lx_program.proofs.Imports.{inl, ap, refl, map, string_bytes, job_of, Option, Job, subst, sym}
+use Rattle.lx_program.proofs.Imports.{inl, ap, refl, map, string_bytes, job_of}
 use Rattle.std.proofs.Common.{inr, Err}
-use Rattle.lx_program.proofs.JobWords.{of_any_run, of_run}
+use Rattle.lx_program.proofs.JobWords.{of_any_run}
 use Rattle.lx_program.proofs.NothingBegun.{keeps_outlets, none_lived}
-use Rattle.lx_desk.specs.Live.{KeepsOutlets}
 use Rattle.lx_desk.specs.declared.desk.Status.TheVariants as status
 use Rattle.lx_program.proofs.live.desk_live_in.Goals as goal
 
@@ -32,11 +31,10 @@ pub returns-in-Err-Usage-clause-ended : goal.returns-in-Err-Usage-clause-ended
 returns-in-Err-Usage-clause-ended g c = λ ample stood sent. of_any_run _ _ _ (inl (c.in-Err-Usage.ensures.usage (ap Err c.in-Err-Usage.field-0-is)))
 
 pub returns-in-Err-Usage-clause-order : goal.returns-in-Err-Usage-clause-order
-returns-in-Err-Usage-clause-order g c = λ ample stood sent. of_any_run _ _ _ (inl (c.in-Err-Usage.ensures.usage (ap Err c.in-Err-Usage.field-0-is)))
+returns-in-Err-Usage-clause-order g c = λ ample stood sent. tt
 
 pub returns-in-Err-Memory-clause-order : goal.returns-in-Err-Memory-clause-order
-returns-in-Err-Memory-clause-order g c = λ ample stood sent.
-    of_any_run _ _ _ (inr (λ universes form bytes. inl (inl (refl, refl))))
+returns-in-Err-Memory-clause-order g c = λ ample stood sent. inl (inl (refl, refl))
 
 pub returns-in-Ok-clause-words_kept : goal.returns-in-Ok-clause-words_kept
 returns-in-Ok-clause-words_kept g c = inl c.in-Ok.ensures.cause.kept
@@ -48,14 +46,10 @@ pub returns-in-Err-Memory-clause-words_kept : goal.returns-in-Err-Memory-clause-
 returns-in-Err-Memory-clause-words_kept g c = inr (refl, (refl, (refl, (refl, (refl, refl)))))
 
 pub returns-in-Ok-clause-outlets : goal.returns-in-Ok-clause-outlets
-returns-in-Ok-clause-outlets g c =
-    subst (λ (o : Option Job). KeepsOutlets g.K.Sink o c.run_live_in.result c.args.input.now c.run_live_in.new.input c.args.output.now
-    c.run_live_in.new.output c.args.outlets.now c.run_live_in.new.outlets) (sym c.in-Ok.ensures.run) c.run_live_in.ensures.outlets
+returns-in-Ok-clause-outlets g c = rw c.in-Ok.ensures.run c.run_live_in.ensures.outlets
 
 pub returns-in-Ok-clause-ended : goal.returns-in-Ok-clause-ended
-returns-in-Ok-clause-ended g c = λ ample stood sent.
-    of_run _ _ _ _ _ c.in-Ok.ensures.run (c.run_live_in.ensures.ended ample stood sent)
+returns-in-Ok-clause-ended g c = λ ample stood sent. rw c.in-Ok.ensures.run (c.run_live_in.ensures.ended ample stood sent)
 
 pub returns-in-Ok-clause-order : goal.returns-in-Ok-clause-order
-returns-in-Ok-clause-order g c = λ ample stood sent.
-    of_run _ _ _ _ _ c.in-Ok.ensures.run (c.run_live_in.ensures.order ample stood sent)
+returns-in-Ok-clause-order g c = λ ample stood sent. rw c.in-Ok.ensures.run (c.run_live_in.ensures.order ample stood sent)

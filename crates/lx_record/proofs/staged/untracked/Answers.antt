@@ -6,8 +6,7 @@ pub loop-k-preserved : goal.loop-k-preserved
 loop-k-preserved g c =
     let console = c.args.console.now in
     record {
-      items = member_next (λ x. not (level_now console x == tracked console.show c.args.n x)) (level_now console) c.loop-k.k
-          c.channel-c.result c.loop-k.members.items c.add_untracked.new.members.items c.loop-k.auto.k c.loop-k.invariant.items
-          c.channel-c.ensures c.in_ok-add_untracked.ensures.members;
+      items = member_next (λ x. not (level_now console x == tracked console.show c.args.n x)) (level_now console) c.loop-k.auto.k
+          c.loop-k.invariant.items c.channel-c.ensures c.in_ok-add_untracked.ensures.members;
       count = c.in_ok-add_untracked.ensures.cause.kept ∙ c.loop-k.invariant.count;
     }

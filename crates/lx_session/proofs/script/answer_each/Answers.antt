@@ -1,6 +1,6 @@
-use Rattle.lx_session.proofs.Imports.{false, IfSome, ap, arith, refl, ◌∙◌, unread, ScriptAnswered, KeepsLimit, spared}
+use Rattle.lx_session.proofs.Imports.{false, ap, arith, refl, ◌∙◌, spared}
 use Rattle.lx_session.proofs.SoFar.{so_far_none, so_far_more, passed_none, passed_more, fits}
-use Rattle.lx_session.proofs.ReplyOutcomes.{through}
+use Rattle.lx_session.proofs.LineOutcomes.{failed_as}
 use Rattle.lx_session.proofs.ScriptEnds.{so_far_ends, so_far_fails, fails_by_limit}
 use Rattle.lx_session.proofs.Stood.{take_none, take_since, take_until}
 use Rattle.lx_session.proofs.script.answer_each.Goals as goal
@@ -45,20 +45,15 @@ script-preserved g c =
 
 pub returns-in_err-take_line-clause-outcome : goal.returns-in_err-take_line-clause-outcome
 returns-in_err-take_line-clause-outcome g c = λ all ample may since state stood_at.
-    let stood : g.A.AnswersBeside.Since → (g.A.AnswersBeside.by all).State → Type 0 = λ since s. g.A.AnswersBeside.stands since all s c.script.answerer c.script.lent in
-    let stands : g.A.AnswersBeside.Since → (g.A.AnswersBeside.by all).State → Type 0 = λ since s. g.A.AnswersBeside.stands since all s c.take_line.new.answerer c.take_line.new.lent in
-    through (λ r. IfSome (unread g.S.Source c.args.lines.now)
-    (λ bytes. ScriptAnswered (spared ample (g.A.AnswersBeside.by all)) (stands since) state c.args.lines.now.taken bytes
-    (unread g.S.Source c.take_line.new.lines) (g.S.Source.left c.take_line.new.lines.source.now) (g.K.Sink.holds c.args.sink.now)
-    (g.K.Sink.holds c.take_line.new.sink) r)) c.from_residual.result c.in_err-take_line.field-0.0 c.from_residual.ensures
-    (so_far_fails stood stands since c.take_line.new.lines c.take_line.new.tally (g.K.Sink.holds c.take_line.new.sink) c.in_err-take_line.field-0.0
+    rw (failed_as c.from_residual.result c.from_residual.ensures)
+    (so_far_fails (λ since s. g.A.AnswersBeside.stands since all s c.script.answerer c.script.lent)
+    (λ since s. g.A.AnswersBeside.stands since all s c.take_line.new.answerer c.take_line.new.lent) since c.take_line.new.lines
+    c.take_line.new.tally (g.K.Sink.holds c.take_line.new.sink) c.in_err-take_line.field-0.0
     (c.script.invariant.so_far all ample (take_until c.take_line.ensures.all c.take_line.ensures.later may) since state stood_at)
     (c.in_err-take_line.ensures.outcome all ample (take_since c.script.invariant.later may)))
 
 pub returns-in_err-take_line-clause-limit : goal.returns-in_err-take_line-clause-limit
-returns-in_err-take_line-clause-limit g c =
-    through (λ r. IfSome (unread g.S.Source c.args.lines.now) (λ bytes. KeepsLimit c.args.lines.now.taken bytes r))
-    c.from_residual.result c.in_err-take_line.field-0.0 c.from_residual.ensures
+returns-in_err-take_line-clause-limit g c = rw (failed_as c.from_residual.result c.from_residual.ensures)
     (fails_by_limit (spared false (g.A.AnswersBeside.by false)) (λ since s. g.A.AnswersBeside.stands since false s c.script.answerer c.script.lent)
     (λ since s. g.A.AnswersBeside.stands since false s c.take_line.new.answerer c.take_line.new.lent) g.S.Source c.args.lines.now
     c.script.lines c.take_line.new.lines c.script.tally c.take_line.new.tally (g.K.Sink.holds c.script.sink)

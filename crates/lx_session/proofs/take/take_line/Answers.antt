@@ -1,107 +1,125 @@
-use Rattle.lx_session.proofs.Imports.{◌∙◌, inl, inr, false, refl, arith, handed_one}
-use Rattle.lx_session.proofs.LineOutcomes.{answered, unwritten, end_unflushed, cut_off, sink_cause, kept_cause}
+use Rattle.lx_session.proofs.Imports.{◌∙◌, ap, inl, inr, Bool, false, Ok, refl, arith, option_copied, handed_one, Keeps-trans, MayTake, spared}
+use Rattle.std.proofs.lemmas.Result.{IfOk-weaker}
+use Rattle.lx_session.proofs.LineOutcomes.{TakenLine, LineIsAnswered, failed_as, replied, ended, unflushed, unwritten, end_unflushed}
+use Rattle.lx_session.proofs.LineOutcomes.{kept_then, sink_cause, kept_cause}
+use Rattle.lx_session.proofs.Stood.{spared_lawful}
 use Rattle.lx_session.proofs.take.take_line.Goals as goal
+use Rattle.lx_session.proofs.take.take_line.Goals.{After-answer_beside, in-Line, in-LongLine}
 
-pub give_reply-requires-clause-room : goal.give_reply-requires-clause-room
-give_reply-requires-clause-room g c = record {
+-- the line that was taken
+taken : (g : _) (c : After-answer_beside g) → TakenLine g.S.Source c.args.lines.now c.advance.new.self (option_copied c.given_line-line.result)
+taken g c = elim c.match-advance.branch [
+  | in-Line w ↦ let e = w.in-Line.ensures in record {
+    raw = e.step.0;
+    handed = handed_one _ _ _ e.step.0 e.step.1 e.counted.1 e.counted.0 e.same_reference e.cause.kept;
+    is = rw (c.given_line-line.ensures, w.whole-is) e.step.2;
+  }
+  | in-LongLine w ↦ let e = w.in-LongLine.ensures in record {
+    raw = e.step.0;
+    handed = handed_one _ _ _ e.step.0 e.step.1 e.counted.1 e.counted.0 e.same_reference e.cause.kept;
+    is = rw (c.given_line-line.ensures, w.whole-is) e.step.3;
+  }
+]
+
+-- and how it was answered
+answered : (g : _) (c : After-answer_beside g) (all ample : Bool)
+    → MayTake all ample (g.A.AnswersBeside.admitted_all c.answer_beside.new.self) (g.H.Heap.refusals c.args.heap.now)
+    (g.H.Heap.refusals c.answer_beside.new.heap)
+    → LineIsAnswered (spared ample (g.A.AnswersBeside.by all))
+    (λ since state. g.A.AnswersBeside.stands since all state c.args.answerer.now c.args.lent.now)
+    (λ since state. g.A.AnswersBeside.stands since all state c.answer_beside.new.self c.answer_beside.new.lent) g.S.Source c.args.lines.now
+    c.advance.new.self g.K.Sink c.args.sink.now c.flush_before_wait.new.sink c.answer_beside.new.sink c.answer_beside.result
+    c.args.tally.now c.answer_beside.new.tally
+answered g c all ample may =
+    let t = taken g c in record {
+      raw = t.raw;
+      handed = t.handed;
+      lawful = spared_lawful ample (g.A.AnswersBeside.by all) (c.answer_beside.ensures.lawful all);
+      kept = c.flush_before_wait.ensures.holds;
+      answered = λ since s stands counts. c.answer_beside.ensures.answered all ample may since s _ stands counts t.is;
+      ends = IfOk-weaker c.answer_beside.result _ _ (λ more told. told _ t.is) c.answer_beside.ensures.quit;
+    }
+
+pub answer_beside-requires-clause-room : goal.answer_beside-requires-clause-room
+answer_beside-requires-clause-room g c = record {
   ok = omega (arith, c.requires.few.ok, c.args.lines.now.counted, c.args.lines.now.few);
   refused = omega (arith, c.requires.few.refused, c.args.lines.now.counted, c.args.lines.now.few);
   bad = omega (arith, c.requires.few.bad, c.args.lines.now.counted, c.args.lines.now.few);
 }
 
-pub give_reply-requires-in-LongLine-clause-room : goal.give_reply-requires-in-LongLine-clause-room
-give_reply-requires-in-LongLine-clause-room g c = record {
-  ok = omega (arith, c.requires.few.ok, c.args.lines.now.counted, c.args.lines.now.few);
-  refused = omega (arith, c.requires.few.refused, c.args.lines.now.counted, c.args.lines.now.few);
-  bad = omega (arith, c.requires.few.bad, c.args.lines.now.counted, c.args.lines.now.few);
-}
+pub returns-in_err-answer_beside-clause-outcome : goal.returns-in_err-answer_beside-clause-outcome
+returns-in_err-answer_beside-clause-outcome g c = λ all ample may.
+    let t = answered g (goal.at.returns-in_err-answer_beside-clause-outcome g c).After-answer_beside all ample may in
+    rw (failed_as c.from_residual-in_err-answer_beside.result c.from_residual-in_err-answer_beside.ensures)
+    (unwritten t c.in_err-answer_beside.field-0.0 c.in_err-answer_beside.was)
 
-pub returns-in_err-give_reply-in-Line-clause-outcome : goal.returns-in_err-give_reply-in-Line-clause-outcome
-returns-in_err-give_reply-in-Line-clause-outcome g c = λ all ample may.
-    let e = c.in-Line.ensures in
-    unwritten _ _ _ g.S.Source c.args.lines.now c.advance.new.self (g.K.Sink.holds c.args.sink.now)
-    (g.K.Sink.holds c.flush_before_wait.new.sink) (g.K.Sink.holds c.give_reply.new.sink)
-    c.args.tally.now c.give_reply.new.tally c.in_err-give_reply-in-Line.field-0.0
-    c.from_residual-in_err-give_reply-in-Line.result c.from_residual-in_err-give_reply-in-Line.ensures
-    (handed_one _ _ _ e.step.0 e.step.1 e.counted.1 e.counted.0 e.same_reference e.cause.kept) c.flush_before_wait.ensures.holds
-    (c.in_err-give_reply-in-Line.ensures.outcome all ample may _ (c.line.ensures.line ∙ e.step.2))
+pub returns-then-branch-clause-outcome : goal.returns-then-branch-clause-outcome
+returns-then-branch-clause-outcome g c = λ all ample may.
+    let t = answered g (goal.at.returns-then-branch-clause-outcome g c).After-answer_beside all ample may in
+    replied t (c.in_ok-answer_beside.was ∙ ap Ok c.if-branch.true)
 
-pub returns-in_ok-give_reply-in-Line-clause-outcome : goal.returns-in_ok-give_reply-in-Line-clause-outcome
-returns-in_ok-give_reply-in-Line-clause-outcome g c = λ all ample may.
-    let e = c.in-Line.ensures in
-    answered _ _ _ g.S.Source c.args.lines.now c.advance.new.self (g.K.Sink.holds c.args.sink.now)
-    (g.K.Sink.holds c.flush_before_wait.new.sink) (g.K.Sink.holds c.give_reply.new.sink)
-    c.args.tally.now c.give_reply.new.tally c.in_ok-give_reply-in-Line.field-0
-    (handed_one _ _ _ e.step.0 e.step.1 e.counted.1 e.counted.0 e.same_reference e.cause.kept) c.flush_before_wait.ensures.holds
-    (c.in_ok-give_reply-in-Line.ensures.outcome all ample may _ (c.line.ensures.line ∙ e.step.2))
+pub returns-in_err-flush-clause-outcome : goal.returns-in_err-flush-clause-outcome
+returns-in_err-flush-clause-outcome g c = λ all ample may.
+    let t = answered g (goal.at.returns-in_err-flush-clause-outcome g c).After-answer_beside all ample may in
+    rw (failed_as c.from_residual-in_err-flush.result c.from_residual-in_err-flush.ensures)
+    (unflushed t _ c.in_err-flush.field-0.0 (c.in_ok-answer_beside.was ∙ ap Ok c.if-branch.false) c.flush-2.ensures.holds)
 
-pub returns-in_err-give_reply-in-Line-clause-cause : goal.returns-in_err-give_reply-in-Line-clause-cause
-returns-in_err-give_reply-in-Line-clause-cause g c =
-    let kept = c.in_ok-flush_before_wait.ensures.cause.kept in
-    sink_cause c.in-Line.ensures.cause.kept kept.0 kept.1 c.in_err-give_reply-in-Line.ensures.cause c.from_residual-in_err-give_reply-in-Line.ensures
+pub returns-clause-outcome : goal.returns-clause-outcome
+returns-clause-outcome g c = λ all ample may.
+    let t = answered g (goal.at.returns-clause-outcome g c).After-answer_beside all ample may in
+    ended t _ (c.in_ok-answer_beside.was ∙ ap Ok c.if-branch.false) c.flush-2.ensures.holds
 
-pub returns-in_ok-give_reply-in-Line-clause-cause : goal.returns-in_ok-give_reply-in-Line-clause-cause
-returns-in_ok-give_reply-in-Line-clause-cause g c =
-    let kept = c.in_ok-flush_before_wait.ensures.cause.kept in
-    let own = c.in_ok-give_reply-in-Line.ensures.cause.kept in kept_cause c.in-Line.ensures.cause.kept (own.0 ∙ kept.0) (own.1 ∙ kept.1)
+pub returns-in_err-answer_beside-clause-cause : goal.returns-in_err-answer_beside-clause-cause
+returns-in_err-answer_beside-clause-cause g c =
+    let t = taken g (goal.at.returns-in_err-answer_beside-clause-cause g c).After-answer_beside in
+    rw (failed_as c.from_residual-in_err-answer_beside.result c.from_residual-in_err-answer_beside.ensures)
+    (sink_cause t.handed.kept c.in_ok-flush_before_wait.ensures.cause.kept c.in_err-answer_beside.ensures.cause)
 
-pub returns-in_err-give_reply-in-LongLine-clause-outcome : goal.returns-in_err-give_reply-in-LongLine-clause-outcome
-returns-in_err-give_reply-in-LongLine-clause-outcome g c = λ all ample may.
-    let e = c.in-LongLine.ensures in
-    unwritten _ _ _ g.S.Source c.args.lines.now c.advance.new.self (g.K.Sink.holds c.args.sink.now)
-    (g.K.Sink.holds c.flush_before_wait.new.sink) (g.K.Sink.holds c.give_reply-in-LongLine.new.sink)
-    c.args.tally.now c.give_reply-in-LongLine.new.tally c.in_err-give_reply-in-LongLine.field-0.0
-    c.from_residual-in_err-give_reply-in-LongLine.result c.from_residual-in_err-give_reply-in-LongLine.ensures
-    (handed_one _ _ _ e.step.0 e.step.1 e.counted.1 e.counted.0 e.same_reference e.cause.kept) c.flush_before_wait.ensures.holds
-    (c.in_err-give_reply-in-LongLine.ensures.outcome all ample may _ e.step.3)
+pub returns-then-branch-clause-cause : goal.returns-then-branch-clause-cause
+returns-then-branch-clause-cause g c =
+    let t = taken g (goal.at.returns-then-branch-clause-cause g c).After-answer_beside in
+    kept_cause t.handed.kept (kept_then c.in_ok-flush_before_wait.ensures.cause.kept c.in_ok-answer_beside.ensures.cause.kept)
 
-pub returns-in_ok-give_reply-in-LongLine-clause-outcome : goal.returns-in_ok-give_reply-in-LongLine-clause-outcome
-returns-in_ok-give_reply-in-LongLine-clause-outcome g c = λ all ample may.
-    let e = c.in-LongLine.ensures in
-    answered _ _ _ g.S.Source c.args.lines.now c.advance.new.self (g.K.Sink.holds c.args.sink.now)
-    (g.K.Sink.holds c.flush_before_wait.new.sink) (g.K.Sink.holds c.give_reply-in-LongLine.new.sink)
-    c.args.tally.now c.give_reply-in-LongLine.new.tally c.in_ok-give_reply-in-LongLine.field-0
-    (handed_one _ _ _ e.step.0 e.step.1 e.counted.1 e.counted.0 e.same_reference e.cause.kept) c.flush_before_wait.ensures.holds
-    (c.in_ok-give_reply-in-LongLine.ensures.outcome all ample may _ e.step.3)
+pub returns-in_err-flush-clause-cause : goal.returns-in_err-flush-clause-cause
+returns-in_err-flush-clause-cause g c =
+    let t = taken g (goal.at.returns-in_err-flush-clause-cause g c).After-answer_beside in
+    rw (failed_as c.from_residual-in_err-flush.result c.from_residual-in_err-flush.ensures)
+    (sink_cause t.handed.kept (kept_then c.in_ok-flush_before_wait.ensures.cause.kept c.in_ok-answer_beside.ensures.cause.kept)
+    c.in_err-flush.ensures.cause)
 
-pub returns-in_err-give_reply-in-LongLine-clause-cause : goal.returns-in_err-give_reply-in-LongLine-clause-cause
-returns-in_err-give_reply-in-LongLine-clause-cause g c =
-    let kept = c.in_ok-flush_before_wait.ensures.cause.kept in
-    sink_cause c.in-LongLine.ensures.cause.kept kept.0 kept.1 c.in_err-give_reply-in-LongLine.ensures.cause c.from_residual-in_err-give_reply-in-LongLine.ensures
-
-pub returns-in_ok-give_reply-in-LongLine-clause-cause : goal.returns-in_ok-give_reply-in-LongLine-clause-cause
-returns-in_ok-give_reply-in-LongLine-clause-cause g c =
-    let kept = c.in_ok-flush_before_wait.ensures.cause.kept in
-    let own = c.in_ok-give_reply-in-LongLine.ensures.cause.kept in kept_cause c.in-LongLine.ensures.cause.kept (own.0 ∙ kept.0) (own.1 ∙ kept.1)
+pub returns-clause-cause : goal.returns-clause-cause
+returns-clause-cause g c =
+    let t = taken g (goal.at.returns-clause-cause g c).After-answer_beside in
+    kept_cause t.handed.kept (kept_then (kept_then c.in_ok-flush_before_wait.ensures.cause.kept c.in_ok-answer_beside.ensures.cause.kept)
+    c.in_ok-flush.ensures.cause.kept)
 
 pub returns-in_err-flush_before_wait-clause-cause : goal.returns-in_err-flush_before_wait-clause-cause
-returns-in_err-flush_before_wait-clause-cause g c = sink_cause refl refl refl c.in_err-flush_before_wait.ensures.cause c.from_residual.ensures
+returns-in_err-flush_before_wait-clause-cause g c = rw (failed_as c.from_residual.result c.from_residual.ensures)
+    (sink_cause refl (refl, refl) c.in_err-flush_before_wait.ensures.cause)
 
 pub returns-in_err-flush-in-End-clause-outcome : goal.returns-in_err-flush-in-End-clause-outcome
 returns-in_err-flush-in-End-clause-outcome g c = λ all ample may.
-    let e = c.in-End.ensures in
-    end_unflushed _ (λ since state. g.A.AnswersBeside.stands since all state c.args.answerer.now c.args.lent.now) g.S.Source
-    c.args.lines.now c.advance.new.self (g.K.Sink.holds c.args.sink.now) (g.K.Sink.holds c.flush_before_wait.new.sink)
-    (g.K.Sink.holds c.flush.new.self) c.args.tally.now c.in_err-flush-in-End.field-0.0
-    c.from_residual-in_err-flush-in-End.result c.from_residual-in_err-flush-in-End.ensures c.flush_before_wait.ensures.holds
-    c.flush.ensures.holds e.step.0 e.ended
+    rw (failed_as c.from_residual-in_err-flush-in-End.result c.from_residual-in_err-flush-in-End.ensures)
+    (end_unflushed _ (λ since state. g.A.AnswersBeside.stands since all state c.args.answerer.now c.args.lent.now) g.S.Source
+    c.args.lines.now c.advance.new.self (g.K.Sink.holds c.args.sink.now) (g.K.Sink.holds c.flush.new.self) c.args.tally.now
+    c.in_err-flush-in-End.field-0.0 (Keeps-trans _ _ _ c.flush_before_wait.ensures.holds c.flush.ensures.holds) c.in-End.ensures.step.0
+    c.in-End.ensures.ended)
 
 pub returns-in_err-flush-in-End-clause-cause : goal.returns-in_err-flush-in-End-clause-cause
 returns-in_err-flush-in-End-clause-cause g c =
-    let kept = c.in_ok-flush_before_wait.ensures.cause.kept in
-    sink_cause c.in-End.ensures.cause.kept kept.0 kept.1 c.in_err-flush-in-End.ensures.cause c.from_residual-in_err-flush-in-End.ensures
+    rw (failed_as c.from_residual-in_err-flush-in-End.result c.from_residual-in_err-flush-in-End.ensures)
+    (sink_cause c.in-End.ensures.cause.kept c.in_ok-flush_before_wait.ensures.cause.kept c.in_err-flush-in-End.ensures.cause)
 
-pub returns-in_ok-flush-in-End-clause-cause : goal.returns-in_ok-flush-in-End-clause-cause
-returns-in_ok-flush-in-End-clause-cause g c =
-    let kept = c.in_ok-flush_before_wait.ensures.cause.kept in
-    let own = c.in_ok-flush-in-End.ensures.cause.kept in kept_cause c.in-End.ensures.cause.kept (own.0 ∙ kept.0) (own.1 ∙ kept.1)
+pub returns-in-End-clause-cause : goal.returns-in-End-clause-cause
+returns-in-End-clause-cause g c =
+    kept_cause c.in-End.ensures.cause.kept (kept_then c.in_ok-flush_before_wait.ensures.cause.kept c.in_ok-flush-in-End.ensures.cause.kept)
 
 pub returns-in-ReadFault-clause-outcome : goal.returns-in-ReadFault-clause-outcome
 returns-in-ReadFault-clause-outcome g c = λ all ample may.
-    let e = c.in-ReadFault.ensures in
-    cut_off (λ since state. g.A.AnswersBeside.stands since all state c.args.answerer.now c.args.lent.now) g.S.Source
-    c.args.lines.now c.advance.new.self (g.K.Sink.holds c.args.sink.now) (g.K.Sink.holds c.flush_before_wait.new.sink) c.args.tally.now
-    (record { raw = e.step.0; fed = false; took = e.step.1; stop = inr (refl, e.none_held refl) }) c.flush_before_wait.ensures.holds
+    let e = c.in-ReadFault.ensures in record {
+      cut = record { raw = e.step.0; fed = false; took = e.step.1; stop = inr (refl, e.none_held refl) };
+      same = λ since s stands counts. record { kept = c.flush_before_wait.ensures.holds; stands = stands };
+    }
 
 pub returns-in-ReadFault-clause-cause : goal.returns-in-ReadFault-clause-cause
 returns-in-ReadFault-clause-cause g c =
@@ -118,9 +136,10 @@ returns-in-ReadFault-clause-cause g c =
 pub returns-in-InputTooLong-clause-outcome : goal.returns-in-InputTooLong-clause-outcome
 returns-in-InputTooLong-clause-outcome g c = λ all ample may.
     let e = c.in-InputTooLong.ensures in (
-      cut_off (λ since state. g.A.AnswersBeside.stands since all state c.args.answerer.now c.args.lent.now) g.S.Source
-          c.args.lines.now c.advance.new.self (g.K.Sink.holds c.args.sink.now) (g.K.Sink.holds c.flush_before_wait.new.sink) c.args.tally.now
-          (record { raw = e.step.0; fed = e.step.1; took = e.step.2; stop = inl e.step.3 }) c.flush_before_wait.ensures.holds,
+      record {
+        cut = record { raw = e.step.0; fed = e.step.1; took = e.step.2; stop = inl e.step.3 };
+        same = λ since s stands counts. record { kept = c.flush_before_wait.ensures.holds; stands = stands };
+      },
       e.step,
     )
 

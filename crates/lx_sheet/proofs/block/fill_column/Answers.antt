@@ -1,6 +1,6 @@
-use Rattle.lx_sheet.proofs.Imports.{◌≡◌, ◌≢◌, ℕ, ◌+◌, ◌*◌, ◌-◌, ◌<◌, ◌≤◌, false, cond, Bool, List, length, take, set}
-use Rattle.lx_sheet.proofs.Imports.{Some, ap, sym, ◌∙◌, inl, inr, arith, IfSome, slice_get, cases_eq, get_or_default, slice_get-get_or}
-use Rattle.lx_sheet.proofs.Imports.{Cue, decides, level_in, Place, cue_level, row_at_place, last_value, width, level_after, tracked_on}
+use Rattle.lx_sheet.proofs.Imports.{◌≡◌, ◌≢◌, ℕ, ◌+◌, ◌*◌, ◌-◌, ◌<◌, ◌≤◌, false, List, length, take, set, Some, ap, sym, ◌∙◌, inl, inr, refl, arith}
+use Rattle.lx_sheet.proofs.Imports.{IfSome, slice_get, cases_eq, get_or_default, slice_get-get_or, Cue, decides, level_in, Place, cue_level}
+use Rattle.lx_sheet.proofs.Imports.{row_at_place, last_value, width, level_after, tracked_on}
 use Rattle.lx_sheet.proofs.Cells.{cell-set_here, cell-set_other, within_block}
 use Rattle.lx_sheet.proofs.BlockReach.{covered_at}
 use Rattle.lx_sheet.proofs.LevelsAfter.{level_after-take}
@@ -38,10 +38,8 @@ loop-place-preserved c =
           let same : w.index-cues-place-then-decides_at.result ≡ cue = w.index-cues-place-then-decides_at.is
           ∙ get_or_default cues place _ cue within ∙ sym c.index-cues-place.is in
           w.level-is ∙ w.level_of-level.ensures ∙ ap (λ (x : Cue). level_in x chan) same
-          ∙ sym (ap (λ (b : Bool). cond b (level_in cue chan) c.loop-place.level) (sym c.decides_at.ensures ∙ w.if-decides_at.true))
-      | else-decides_at w ↦
-          w.level-is
-          ∙ sym (ap (λ (b : Bool). cond b (level_in cue chan) c.loop-place.level) (sym c.decides_at.ensures ∙ w.if-decides_at.false))
+          ∙ rw (← c.decides_at.ensures, w.if-decides_at.true) refl
+      | else-decides_at w ↦ rw (← c.decides_at.ensures, w.if-decides_at.false) w.level-is
     ] in
     let tracks : last_value c.args.from (λ k. cue_level n order c.args.levels.now k chan)
     ≡ level_after (take c.args.from cues) chan → level ≡ level_after (take (place + 1) cues) chan =
@@ -72,20 +70,11 @@ loop-place-preserved c =
     }
 
 pub overflow_mul-levels : goal.overflow_mul-levels
-overflow_mul-levels c = omega (
-  arith,
-  within_block c.own_row-row.result c.args.channels c.own_row-row.ensures.within,
-  c.requires.places.block.few,
-)
+overflow_mul-levels c = omega (arith, within_block c.own_row-row.result c.args.channels c.own_row-row.ensures.within)
 
 pub bounds-levels-row : goal.bounds-levels-row
 bounds-levels-row c =
-    let there : c.loop-place.place < length c.args.order.now = omega (
-      arith,
-      c.loop-place-test.true,
-      c.requires.to,
-      c.requires.places.places,
-    ) in
+    let there : c.loop-place.place < length c.args.order.now = omega (arith, c.loop-place-test.true, c.requires) in
     let end : (c.own_row-row.result + 1) * width c.args.channels ≤ length c.args.levels.now =
     rw c.own_row-row.ensures.row (covered_at c.loop-place.place c.requires.places.block there) in
     omega (arith, end, c.loop-place.auto.levels, c.get.ensures.value, c.get.ensures.least, c.requires.within)

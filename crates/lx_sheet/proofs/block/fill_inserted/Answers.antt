@@ -1,5 +1,5 @@
-use Rattle.lx_sheet.proofs.Imports.{◌≡◌, ◌≢◌, ◌+◌, ◌<◌, ℕ, Bool, cond, List, length, take, ap, sym, ◌∙◌, inl, inr, arith, cases_eq}
-use Rattle.lx_sheet.proofs.Imports.{Cue, level_in, Place, cue_level, row_at_place, level_after}
+use Rattle.lx_sheet.proofs.Imports.{◌≡◌, ◌≢◌, ◌+◌, ◌<◌, ℕ, Bool, cond, List, length, take, ap, sym, ◌∙◌, inl, inr, arith, cases_eq, Cue, level_in}
+use Rattle.lx_sheet.proofs.Imports.{Place, cue_level, row_at_place, level_after}
 use Rattle.lx_sheet.proofs.BlockReach.{covered_at}
 use Rattle.lx_sheet.proofs.LevelsAfter.{level_after-take}
 use Rattle.lx_sheet.proofs.RightRows.{right_on}

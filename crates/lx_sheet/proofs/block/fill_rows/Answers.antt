@@ -1,5 +1,5 @@
-use Rattle.lx_sheet.proofs.Imports.{◌≡◌, ◌≢◌, ℕ, ◌+◌, ◌<◌, List, length, take, ap, sym, ◌∙◌, inl, inr, arith, cases_eq, cases_lt}
-use Rattle.lx_sheet.proofs.Imports.{Cue, Place, cue_level, row_at_place, level_in_look, level_after, tracked_on, IsRight}
+use Rattle.lx_sheet.proofs.Imports.{◌≡◌, ◌≢◌, ℕ, ◌+◌, ◌<◌, List, length, take, ap, sym, ◌∙◌, inl, inr, arith, cases_eq, cases_lt, Cue, Place}
+use Rattle.lx_sheet.proofs.Imports.{cue_level, row_at_place, level_in_look, level_after, tracked_on, IsRight}
 use Rattle.lx_sheet.proofs.LevelsAfter.{level_after-take}
 use Rattle.lx_sheet.proofs.RightRows.{right_on}
 use Rattle.lx_sheet.proofs.RowPool.{rows_differ}

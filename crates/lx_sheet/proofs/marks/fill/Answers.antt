@@ -1,5 +1,4 @@
-use Rattle.lx_sheet.proofs.Imports.{◌≡◌, ◌≢◌, ℕ, ◌<◌, List, length, get_or, set, ◌∙◌, inl, inr, arith, cases_eq}
-use Rattle.lx_sheet.proofs.Imports.{get_or-set_same, word_place}
+use Rattle.lx_sheet.proofs.Imports.{◌≡◌, ◌≢◌, ℕ, ◌<◌, List, length, get_or, set, ◌∙◌, inl, inr, arith, cases_eq, get_or-set_same, word_place}
 use Rattle.lx_sheet.proofs.MarkWords.{place_within, word_other}
 use Rattle.lx_sheet.proofs.marks.fill.Goals as goal
 

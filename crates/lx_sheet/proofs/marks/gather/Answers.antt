@@ -1,5 +1,5 @@
-use Rattle.lx_sheet.proofs.Imports.{◌≡◌, ℕ, ◌+◌, ◌-◌, List, get_or, ap, sym, ◌∙◌, inl, inr, arith, w64, cases_eq}
-use Rattle.lx_sheet.proofs.Imports.{bit_at_ones, bit_at_set_same, Move, bit_of, chan_at, group_of}
+use Rattle.lx_sheet.proofs.Imports.{◌≡◌, ℕ, ◌+◌, ◌-◌, List, get_or, ap, sym, ◌∙◌, inl, inr, arith, w64, cases_eq, bit_at_ones, bit_at_set_same, Move}
+use Rattle.lx_sheet.proofs.Imports.{bit_of, chan_at, group_of}
 use Rattle.lx_sheet.proofs.MarkWords.{bit_left, chan_is, same_group}
 use Rattle.lx_sheet.proofs.marks.gather.Goals as goal
 

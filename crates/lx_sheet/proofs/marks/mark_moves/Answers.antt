@@ -1,5 +1,5 @@
-use Rattle.lx_sheet.proofs.Imports.{◌≡◌, ℕ, ◌+◌, ◌*◌, ◌/◌, ◌<◌, ◌≤◌, List, length, get_or, ap, sym, ◌∙◌, subst, inl}
-use Rattle.lx_sheet.proofs.Imports.{inr, arith, cases_lt, Move, chan_at, group_of, row_bit, word_place}
+use Rattle.lx_sheet.proofs.Imports.{◌≡◌, ℕ, ◌+◌, ◌*◌, ◌/◌, ◌<◌, ◌≤◌, List, length, get_or, ap, sym, ◌∙◌, subst, inl, inr, arith, cases_lt, Move}
+use Rattle.lx_sheet.proofs.Imports.{chan_at, group_of, row_bit, word_place}
 use Rattle.lx_sheet.proofs.MarkWords.{bit_added, bit_kept, chan_found, chan_is, group_within, word_other}
 use Rattle.lx_sheet.proofs.marks.mark_moves.Goals as goal
 

@@ -1,6 +1,6 @@
 use Rattle.lx_sheet.proofs.Imports.{◌≡◌, ℕ, ◌+◌, ◌*◌, ◌≤◌, List, length, take, below_more, below_none, sym, ap, ◌∙◌, inl, inr, arith, rules, cases_eq}
-use Rattle.lx_sheet.proofs.Imports.{with_items_is, All-from_recursion, get_or, get_or_default, Cue, ValidCue, Marks, cell, level_in_look, width, level_after}
-use Rattle.lx_sheet.proofs.Imports.{tracked_on}
+use Rattle.lx_sheet.proofs.Imports.{with_items_is, All-from_recursion, get_or, get_or_default, Cue, ValidCue, Marks, cell, level_in_look, width}
+use Rattle.lx_sheet.proofs.Imports.{level_after, tracked_on}
 use Rattle.std.proofs.lemmas.Grind.{common_steps}
 use Rattle.lx_sheet.proofs.LevelsAfter.{level_after-nil, level_after-take}
 use Rattle.lx_sheet.proofs.MarkedRows.{grown_on, moves_within, reached_grown}
@@ -8,10 +8,9 @@ use Rattle.lx_sheet.proofs.opening.fill_all.Goals as goal
 
 pub loop-place-init : goal.loop-place-init
 loop-place-init c =
-    let n : ℕ = length c.args.look.now in
     record {
       look = λ x. let zero : level_in_look c.fill.new.self x ≡ 0 = grind (arith, common_steps) in zero ∙ sym (level_after-nil x);
-      levels = below_none (λ k. (x : ℕ) → cell n c.args.levels.now.items k x ≡ level_after (take (k + 1) c.args.cues.now) x);
+      levels = λ k less. absurd (omega arith);
       long = omega arith;
       room = omega arith;
       table = search rules;

@@ -1,5 +1,5 @@
-use Rattle.lx_sheet.proofs.Imports.{◌≡◌, ℕ, ◌+◌, ◌*◌, ◌<◌, ◌≤◌, length, max, take, vec_capacity, get_or, Cue, cell}
-use Rattle.lx_sheet.proofs.Imports.{level_in_look, width, IsGrown, IsMarkedFor, IsReached, level_after}
+use Rattle.lx_sheet.proofs.Imports.{◌≡◌, ℕ, ◌+◌, ◌*◌, ◌<◌, ◌≤◌, length, max, take, vec_capacity, get_or, Cue, cell, level_in_look, width, IsGrown}
+use Rattle.lx_sheet.proofs.Imports.{IsMarkedFor, IsReached, level_after}
 use Rattle.lx_sheet.proofs.opening.fill_all.Given as goal
 
 abbrev pub invariant-loop-place : goal.invariant-loop-place

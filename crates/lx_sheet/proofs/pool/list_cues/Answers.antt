@@ -1,18 +1,11 @@
-use Rattle.lx_sheet.proofs.Imports.{◌≡◌, ◌+◌, ◌∷◌, [], ◌++◌, ℕ, List, length, take, sym, ap, ◌∙◌, arith, length-take, take_more}
-use Rattle.lx_sheet.proofs.Imports.{Cue, placed_from}
+use Rattle.lx_sheet.proofs.Imports.{◌≡◌, ◌+◌, ◌∷◌, [], ◌++◌, ℕ, List, length, take, sym, ap, ◌∙◌, arith, length-take, take_more, Cue, placed_from}
 use Rattle.lx_sheet.proofs.ListedRows.{length-placed_from, placed_from-more}
 use Rattle.lx_sheet.proofs.pool.list_cues.Goals as goal
 
 pub push_reserved-requires : goal.push_reserved-requires
 push_reserved-requires c =
     let row : ℕ = c.loop-row.row in
-    omega (
-      arith,
-      c.loop-row.order.ok,
-      ap length c.loop-row.invariant.order,
-      length-placed_from 0 (take row c.args.cues.now),
-      length-take row c.args.cues.now,
-    )
+    omega (arith, c.loop-row.order.ok, ap length c.loop-row.invariant.order, length-placed_from, length-take row c.args.cues.now)
 
 pub loop-row-preserved : goal.loop-row-preserved
 loop-row-preserved c =

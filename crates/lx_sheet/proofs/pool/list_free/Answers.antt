@@ -1,5 +1,5 @@
-use Rattle.lx_sheet.proofs.Imports.{◌≡◌, ◌+◌, ◌-◌, ◌∷◌, [], ◌++◌, ℕ, List, length, ap, ◌∙◌, arith, reverse, range_with_len}
-use Rattle.lx_sheet.proofs.Imports.{length-range_with_len, CUES}
+use Rattle.lx_sheet.proofs.Imports.{◌≡◌, ◌+◌, ◌-◌, ◌∷◌, [], ◌++◌, ℕ, List, length, ap, ◌∙◌, arith, reverse, range_with_len, length-range_with_len}
+use Rattle.lx_sheet.proofs.Imports.{CUES}
 use Rattle.lx_sheet.proofs.RowPool.{range_append}
 use Rattle.lx_sheet.proofs.pool.list_free.Goals as goal
 

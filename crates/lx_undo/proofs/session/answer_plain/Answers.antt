@@ -1,13 +1,12 @@
-use Rattle.lx_undo.proofs.Imports.{◌∙◌, ap, not, sym, IfSome, IfOk-weaker, subst, Option, Line, is_quit, ValidLine, LineState, unattempted}
+use Rattle.lx_undo.proofs.Imports.{◌∙◌, ap, not, refl, IfOk-weaker, Option, Line, is_quit, LineState}
 use Rattle.lx_undo.proofs.LineAnswers.{answered_line}
 use Rattle.lx_undo.proofs.session.answer_plain.Goals as goal
 
 pub attempt_all-requires-clause-start : goal.attempt_all-requires-clause-start
-attempt_all-requires-clause-start g c = c.of-turn.ensures ∙ ap unattempted (sym (ap (λ (t : LineState). t.meaning) c.of-turn.ensures))
+attempt_all-requires-clause-start g c = rw c.of-turn.ensures refl
 
 pub attempt_all-requires-clause-valid : goal.attempt_all-requires-clause-valid
-attempt_all-requires-clause-valid g c =
-    subst (λ m. IfSome m ValidLine) (sym (ap (λ (t : LineState). t.meaning) c.of-turn.ensures)) c.requires.valid
+attempt_all-requires-clause-valid g c = rw c.of-turn.ensures c.requires.valid
 
 pub returns-clause-answered : goal.returns-clause-answered
 returns-clause-answered g c = λ ample stood s text stands counted is none.

@@ -3,8 +3,7 @@ use Rattle.lx_workers.proofs.WorkerSteps.{put_none, put_whole, put_part}
 use Rattle.lx_workers.proofs.worker.put_newest.Goals as goal
 
 pub returns-then-not-is_newer : goal.returns-then-not-is_newer
-returns-then-not-is_newer g c =
-    put_none _ _ c.args.tap.now c.args.sink.now c.args.served.now c.args.stamp.count c.requires.none c.requires.version.count_is (search rules)
+returns-then-not-is_newer g c = put_none c.args.stamp.count c.requires.none c.requires.version.count_is (search rules)
 
 pub returns-in-Ok : goal.returns-in-Ok
 returns-in-Ok g c =

@@ -9,7 +9,6 @@ put_newest-requires-clause-version g c = rw c.take-stamp.ensures.universe c.take
 pub returns-clause-stepped : goal.returns-clause-stepped
 returns-clause-stepped g c =
     let t = c.take-stamp.ensures in
-    stepped _ _ c.args.tap.now c.take-stamp.new.self c.args.sink.now c.put_newest.new.sink c.args.served.now c.put_newest.new.served
-    c.saturating_add-served.result c.saturating_add-served.ensures t.universe
+    stepped c.saturating_add-served.result c.saturating_add-served.ensures t.universe
     (longest_begins c.args.tap.now.told.seen c.args.tap.now.told.learnt (newest c.take-stamp.new.self.told) t.seen t.heard)
     (taken _ _ t.seen t.reading) c.put_newest.ensures

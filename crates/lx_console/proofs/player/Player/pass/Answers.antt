@@ -1,4 +1,4 @@
-use Rattle.lx_console.proofs.Imports.{◌≡◌, ap, sym, subst, ◌∙◌, Playback, Kept, moments_later, LevelsStandFor}
+use Rattle.lx_console.proofs.Imports.{ap, sym, subst, ◌∙◌, Playback, Kept, LevelsStandFor}
 use Rattle.lx_console.proofs.Imports.{StandsFor}
 use Rattle.lx_console.proofs.OutputChanges.{kept_in, played_changes}
 use Rattle.lx_console.proofs.PassedTicks.{ticks_passed}
@@ -7,14 +7,8 @@ use Rattle.lx_console.proofs.player.Player.pass.Goals as goal
 -- the levels stand for the playback that passed the ticks
 stands : (c : goal.After-of_levels)
     → LevelsStandFor c.self.inside.show c.pass-ticks.new.self c.to_moment-changed.new.self
-stands c =
-    let show = c.self.inside.show in
-    let p : Playback = c.self.inside.playback in
-    let moment : c.moment.result ≡ (moments_later p c.pass-ticks.result).moment =
-    c.moment.ensures.moment ∙ ap (λ (q : Playback). q.moment) c.pass-ticks.ensures.state in
-    subst (λ (q : Playback). LevelsStandFor show q c.to_moment-changed.new.self) (sym c.pass-ticks.ensures.state)
-    (subst (λ m. LevelsStandFor show (record p { moment = m }) c.to_moment-changed.new.self) moment
-    (c.to_moment-changed.ensures.stands show p c.self.invariant.levels_stand))
+stands c = rw c.pass-ticks.ensures.state (rw (c.moment.ensures.moment ∙ ap (λ (q : Playback). q.moment) c.pass-ticks.ensures.state)
+    at (c.to_moment-changed.ensures.stands c.self.inside.show c.self.inside.playback c.self.invariant.levels_stand))
 
 pub invariant_of-self : goal.invariant_of-self
 invariant_of-self c = record {

@@ -1,11 +1,14 @@
-use Rattle.lx_console.proofs.Imports.{ap, Kept}
+use Rattle.lx_console.proofs.Imports.{ap, refl, Kept, press}
+use Rattle.lx_spec.specs.declared.Command.TheVariants as commands
+use Rattle.lx_spec.specs.declared.Key.TheVariants.{Play}
 use Rattle.lx_console.proofs.NoMemory.{key_never, fader_never}
-use Rattle.lx_console.proofs.Obedience.{obeys_play, obeys_fader, obeys_master}
+use Rattle.lx_console.proofs.Obedience.{obeys_played, obeys_fader, obeys_master}
 use Rattle.lx_console.proofs.player.Player.press.Goals as goal
 
 pub returns-in-Play-clause-obeys : goal.returns-in-Play-clause-obeys
 returns-in-Play-clause-obeys c = λ d stands.
-    rw c.in-Play.is (obeys_play c.in-Play.key c.play.result stands c.play.ensures.ok c.play.ensures.err)
+    rw c.in-Play.is (obeys_played (commands.Key (Play c.in-Play.key)) (λ k. press k.show k.playback c.in-Play.key) c.play.result stands refl
+    c.play.ensures.ok c.play.ensures.err)
 
 pub returns-in-Fader-clause-obeys : goal.returns-in-Fader-clause-obeys
 returns-in-Fader-clause-obeys c = λ d stands.

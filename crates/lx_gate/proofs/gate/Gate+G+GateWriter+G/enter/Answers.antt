@@ -16,9 +16,7 @@ extend-requires-clause-known g c =
 
 pub returns-then-extend : goal.returns-then-extend
 returns-then-extend g c =
-    let whole = entered_whole c.args.self.now c.args.unsent.now c.requires.entered in
     let list : c.again-entered.result ≡ c.args.self.now.entered = c.again-entered.ensures ∙ ap (λ v. v.entered) c.self.view_is in
     let known : c.len.result - c.len-in-loop.result ≡ length c.args.self.now.entered - length c.args.self.now.published =
     omega (arith, c.len.ensures, c.len-in-loop.ensures, ap length list, ap (λ v. length v.published) c.self.view_is) in
-    c.if-extend.ensures ∙ (ap (λ w. w ++ drop (c.len.result - c.len-in-loop.result) c.args.unsent.now) list
-    ∙ (ap (λ n. c.args.self.now.entered ++ drop n c.args.unsent.now) known ∙ whole))
+    c.if-extend.ensures ∙ rw (list, known) (entered_whole c.args.self.now c.args.unsent.now c.requires.entered)

@@ -26,10 +26,7 @@ pub returns-then-found-count : goal.returns-then-found-count
 returns-then-found-count g c =
     let again = c.again-seen.ensures in
     let len : length (flat c.again-seen.result.log) ≡ c.self.inside.count = ap (λ s. length (flat s.log)) again ∙ sym c.self.invariant.0 in
-    let old : flat c.again-seen.result.log ≡ c.args.self.now = ap (λ s. flat s.log) again ∙ c.self.view_is in
     let found = c.compare_exchange-found in
-    let longer : IsLonger (flat c.again-seen.result.log) (flat found.new.seen.log) =
-    adds_longer c.again-seen.result.log found.new.seen.log c.plain-offer.result.ask c.self.inside.count found.result c.if-found-count.true
-    len found.ensures.6 found.ensures.7 in
-    subst (λ (w : List Command). IsLonger c.args.self.now w) (sym (c.drop.view_is ∙ c.of_parts.ensures))
-    (subst (λ (w : List Command). IsLonger w (flat found.new.seen.log)) old longer)
+    rw (c.drop.view_is ∙ c.of_parts.ensures, sym (ap (λ s. flat s.log) again ∙ c.self.view_is))
+    (adds_longer c.again-seen.result.log found.new.seen.log c.plain-offer.result.ask c.self.inside.count found.result c.if-found-count.true len
+    found.ensures.6 found.ensures.7)

@@ -1,5 +1,5 @@
-use Rattle.lx_levels.proofs.Imports.{◌≡◌, ◌+◌, ◌-◌, ◌∙◌, List, ap, arith, length, sym, subst, length-reverse, Run, level}
-use Rattle.lx_levels.proofs.Imports.{KeptLevels, IsGround, Option, Act, EachAct, IsValid}
+use Rattle.lx_levels.proofs.Imports.{◌≡◌, ◌+◌, ◌-◌, ◌∙◌, ap, arith, length, sym, length-reverse, level, refl, KeptLevels}
+use Rattle.std.specs.List.{length_refill}
 use Rattle.lx_levels.proofs.Written.{written}
 use Rattle.lx_levels.proofs.UnderWay.{right_but, elsewhere}
 use Rattle.lx_levels.proofs.levels.Levels.recompute.Goals as goal
@@ -25,12 +25,10 @@ replay-requires-clause-place c =
     omega (arith, c.get.ensures.value, c.get.ensures.least, c.requires.chan, ap (λ (v : KeptLevels). length v.stacks) c.self.view_is)
 
 pub replay-requires-clause-acts : goal.replay-requires-clause-acts
-replay-requires-clause-acts c = sym (ap length (acts_are c)) ∙ c.ground_of-oldest.auto.acts_of ∙ ap length c.deref_mut-2.ensures.value
-    ∙ c.self.invariant.acts_room
+replay-requires-clause-acts c = omega (arith, ap length (acts_are c), ap length c.deref_mut-2.ensures.value, c.self.invariant.acts_room)
 
 pub replay-requires-clause-valid : goal.replay-requires-clause-valid
-replay-requires-clause-valid c = subst (λ (acts_of : List (Option Act)). EachAct IsValid c.live-live.result.now c.ground_of-oldest.result.first acts_of)
-    (acts_are c) c.ground_of-oldest.ensures.valid
+replay-requires-clause-valid c = rw (← acts_are c) c.ground_of-oldest.ensures.valid
 
 pub refresh-requires : goal.refresh-requires
 refresh-requires c = right_but _ c.self.invariant.right
@@ -38,34 +36,23 @@ refresh-requires c = right_but _ c.self.invariant.right
     c.replay.ensures.others
 
 pub invariant_of-self : goal.invariant_of-self
-invariant_of-self c = record {
-  right = c.refresh.ensures;
-  room = ap length (written c.self.inside.hints.len c.ground_of-oldest.new.hints c.self.inside.hints.items
-      (omega (arith, c.ground_of-oldest.auto.hints, c.deref_mut.ensures.len))) ∙ c.ground_of-oldest.auto.hints ∙ ap length c.deref_mut.ensures.value
-      ∙ c.self.invariant.room;
-  acts_room = ap length (written c.self.inside.acts.len c.ground_of-oldest.new.acts_of c.self.inside.acts.items
-      (omega (arith, c.ground_of-oldest.auto.acts_of, c.deref_mut-2.ensures.len))) ∙ c.ground_of-oldest.auto.acts_of
-      ∙ ap length c.deref_mut-2.ensures.value ∙ c.self.invariant.acts_room;
-}
+invariant_of-self c =
+    let hints = length_refill c.self.inside.hints.len c.self.inside.hints.items c.ground_of-oldest.new.hints (omega arith) in
+    let acts = length_refill c.self.inside.acts.len c.self.inside.acts.items c.ground_of-oldest.new.acts_of (omega arith) in
+    record { right = c.refresh.ensures; room = omega (arith, hints); acts_room = omega (arith, acts) }
 
 pub returns-clause-here : goal.returns-clause-here
 returns-clause-here c =
-    let show = c.args.show.now in
     let p = c.args.playback.now in
-    let live : List Run = c.live-live.result.now in
-    let oldest = c.ground_of-oldest.result in
-    let acts = sym (c.deref.ensures.value ∙ written c.self.inside.acts.len c.ground_of-oldest.new.acts_of c.self.inside.acts.items
-    (omega (arith, c.ground_of-oldest.auto.acts_of, c.deref_mut-2.ensures.len))) in
-    let ground = subst (IsGround show c.base.result live c.args.chan c.self.inside.moment oldest.first oldest.level) acts
+    let acts = c.deref.ensures.value ∙ written c.self.inside.acts.len c.ground_of-oldest.new.acts_of c.self.inside.acts.items
+    (omega (arith, c.ground_of-oldest.auto.acts_of, c.deref_mut-2.ensures.len)) in
+    let gives = (rw acts at c.replay.ensures.level) c.args.show.now c.base.result c.args.chan c.self.inside.moment
     c.ground_of-oldest.ensures.ground in
     let moment : c.self.inside.moment ≡ p.moment = ap (λ (v : KeptLevels). v.moment) c.self.view_is ∙ c.requires.moment in
     let next : c.args.chan ≡ c.args.chan - 1 + 1 = omega (arith, c.get.ensures.value, c.get.ensures.least) in
     rw (← c.get.ensures.value) (record {
-      later = λ x from.
-          c.replay.ensures.level show c.base.result c.args.chan c.self.inside.moment ground x (omega (arith, moment, from))
-          ∙ ap (λ (runs : List Run). level show c.base.result runs c.args.chan x) c.live-live.ensures.live
-          ∙ ap (λ b. level show b p.live c.args.chan x) c.base.ensures ∙ ap (λ n. level show p.base p.live n x) (next ∙ ap (λ n. n - 1 + 1) (sym c.get.ensures.value));
-      few = omega (arith, c.replay.ensures.few, ap length c.live-live.ensures.live, length-reverse live);
+      later = λ x from. gives x (omega (arith, moment, from)) ∙ rw (c.live-live.ensures.live, c.base.ensures, c.get.ensures.value, ← next) refl;
+      few = omega (arith, c.replay.ensures.few, ap length c.live-live.ensures.live, length-reverse c.live-live.result.now);
     })
 
 pub returns-clause-others : goal.returns-clause-others

@@ -1,6 +1,5 @@
-use Rattle.lx_levels.proofs.Imports.{◌≡◌, ◌+◌, ◌<◌, ◌≤◌, ℕ, ◌∙◌, ap, sym, subst, arith, slice_index, option_map_or}
-use Rattle.lx_levels.proofs.Imports.{tracked, Run, kept_stack, IsStill, refl}
-use Rattle.lx_levels.proofs.AddedRuns.{added_next, added_row, known_as, same_run_copied, stands_on, stands_off, stands_still}
+use Rattle.lx_levels.proofs.Imports.{◌≡◌, ◌+◌, ◌<◌, ◌≤◌, ℕ, ◌∙◌, ap, sym, arith, slice_index, option_map_or, tracked, Run, refl}
+use Rattle.lx_levels.proofs.AddedRuns.{added_next, added_row, same_run_copied, stands_on, stands_off, stands_still}
 use Rattle.lx_levels.proofs.Looks.{tracked_in_look}
 use Rattle.lx_levels.proofs.levels.Levels.run_added.Goals as goal
 use Rattle.lx_levels.proofs.levels.Levels.run_added.Goals.{in-Some-act_of, in_default-act_of}
@@ -19,13 +18,8 @@ pub add_run-requires-clause-valid : goal.add_run-requires-clause-valid
 add_run-requires-clause-valid c = c.in-Some-act_of.ensures.valid
 
 pub add_run-requires-clause-started : goal.add_run-requires-clause-started
-add_run-requires-clause-started c = omega (
-  arith,
-  c.in-Some-act_of.ensures.start,
-  c.in-Some.ensures.started,
-  c.loop-k.invariant.added.moment,
-  c.requires.stood.stands.moment,
-)
+add_run-requires-clause-started c = omega
+    (arith, c.in-Some-act_of.ensures.start, c.in-Some.ensures.started, c.loop-k.invariant.added.moment, c.requires.stood.stands)
 
 pub loop-k-preserved-then-still-gt0 : goal.loop-k-preserved-then-still-gt0
 loop-k-preserved-then-still-gt0 c =
@@ -33,19 +27,18 @@ loop-k-preserved-then-still-gt0 c =
     let stood = c.requires.stood in
     let old = c.loop-k.invariant in
     let k = c.loop-k.k in
-    let within : k + c.count_still-still.result ≤ show.channels = omega (arith, c.count_still-still.ensures.most, old.added.reach, stood.stands.reach) in
-    let run_is : c.in-Some.run'.now ≡ stood.last = same_run_copied c.in-Some.run'.now stood.last (c.in-Some.ensures.last stood.last stood.older stood.live_is) in
+    let within : k + c.count_still-still.result ≤ show.channels =
+    omega (arith, c.count_still-still.ensures.most, old.added.reach, stood.stands.reach) in
+    let run_is = same_run_copied c.in-Some.run'.now stood.last (c.in-Some.ensures.last stood.last stood.older stood.live_is) in
     let looks = λ (i : ℕ). option_map_or (λ row. slice_index row.now i) c.look_at-to.result 0 in
     record {
       within = omega (arith, within, c.channels-channels.ensures.channels);
       added = added_row c.count_still-still.result old.added (λ i from below.
           let less : i < show.channels = omega (arith, below, within) in
           stands_still c.loop-k.self stood less (old.added.left i from) (looks i)
-          (ap (λ (r : Run). tracked show r.cue (i + 1)) (sym run_is ∙ sym c.run.view_is)
-          ∙ sym (tracked_in_look (λ row. row.now) show c.args.sheet.now c.run.inside.cue i c.look_at-to.result c.look_at-to.ensures.levels
-          c.look_at-to.ensures.none c.requires.rows less))
-          (subst (λ m. IsStill m (kept_stack c.loop-k.self i) (looks i)) (old.added.moment ∙ stood.stands.moment)
-          (c.count_still-still.ensures.still i from below)));
+          (rw (← run_is, ← c.run.view_is) (sym (tracked_in_look (λ row. row.now) show c.args.sheet.now c.run.inside.cue i
+          c.look_at-to.result c.look_at-to.ensures.levels c.look_at-to.ensures.none c.requires.rows less)))
+          (rw (old.added.moment ∙ stood.stands.moment) at (c.count_still-still.ensures.still i from below)));
     }
 
 pub loop-k-preserved : goal.loop-k-preserved
@@ -60,8 +53,9 @@ loop-k-preserved c =
     c.level_on.ensures
     ∙ tracked_in_look (λ row. row.now) show c.args.sheet.now c.before_last.result k c.look_at-from.result c.look_at-from.ensures.levels
     c.look_at-from.ensures.none c.requires.rows less ∙ ap (λ n. tracked show c.before_last.result n) (sym c.at-c.ensures.value) in
-    let known = known_as (c.act_of.ensures.known c.before_last.result looks) (c.before_last.ensures stood.last stood.older stood.live_is)
-    (same_run_copied run stood.last (c.in-Some.ensures.last stood.last stood.older stood.live_is)) c.at-c.ensures.value in
+    let run_is = same_run_copied run stood.last (c.in-Some.ensures.last stood.last stood.older stood.live_is) in
+    let known = rw (c.before_last.ensures stood.last stood.older stood.live_is, run_is, c.at-c.ensures.value)
+    at (c.act_of.ensures.known c.before_last.result looks) in
     record {
       within = omega (arith, c.loop-k-test.true);
       added = elim c.match-act_of.branch [

@@ -1,5 +1,5 @@
-use Rattle.std.proofs.lemmas.List.{set-get_or}
 use Rattle.lx_levels.proofs.Imports.{sym, no_current, place_of}
+use Rattle.std.proofs.lemmas.List.{set-get_or}
 use Rattle.lx_levels.proofs.motion.Motion.bring.Goals as goal
 
 pub returns-then-m-index-clause-others : goal.returns-then-m-index-clause-others

@@ -17,8 +17,8 @@ push_in-push-requires-clause-reach c =
 
 pub put-requires-clause-kept : goal.put-requires-clause-kept
 put-requires-clause-kept c =
-    let read = reads c.self.inside c.self.view_is c.self.invariant c.requires.within c.index-foot.ensures c.deref.ensures.value in
-    omega (arith, read.long, c.push_in-push.ensures.kept)
+    rw (reads c.self.inside c.self.view_is c.self.invariant c.requires.within c.index-foot.ensures c.deref.ensures.value).long
+    c.push_in-push.ensures.kept
 
 pub put-requires-clause-room : goal.put-requires-clause-room
 put-requires-clause-room c =

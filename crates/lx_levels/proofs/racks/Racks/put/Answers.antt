@@ -1,4 +1,5 @@
-use Rattle.lx_levels.proofs.Imports.{◌+◌, ◌-◌, ◌∷◌, drop, length, no_stack, ◌∙◌, List, ap, set, refl, arith, get_or, get_or-set_other, get_or-set_same, length-set, Stack}
+use Rattle.lx_levels.proofs.Imports.{◌+◌, ◌-◌, ◌∷◌, drop, length, no_stack, ◌∙◌, List, ap, set, refl, arith, get_or, get_or-set_other}
+use Rattle.lx_levels.proofs.Imports.{get_or-set_same, length-set, Stack}
 use Rattle.lx_levels.specs.Columns.{FootReaches, foot_at}
 use Rattle.lx_levels.specs.declared.racks.Foot.{Foot}
 use Rattle.lx_levels.proofs.Columns.{place_within, stacks_set, reads, kept_below}

@@ -14,7 +14,6 @@ returns c =
     let foot : Foot = record { bottom = c.args.bottom; count = 0 } in
     let none : Foot = record { bottom = 0; count = 0 } in
     let within = place_within r c.self.view_is c.requires in
-    stacks_set r.channels r.feet.items (set r.feet.items k foot) r.fades.items r.fades.items k (record { bottom = c.args.bottom; fades = [] }) within
+    rw (← c.self.view_is) (stacks_set r.channels r.feet.items (set r.feet.items k foot) r.fades.items r.fades.items k _ within
     (rw (get_or-set_same r.feet.items k foot none (omega (arith, within, c.self.invariant.of_feet))) refl)
-    (λ i less apart. rw (get_or-set_other r.feet.items k i foot none apart) refl)
-    ∙ ap (λ (ss : List Stack). set ss k (record { bottom = c.args.bottom; fades = [] })) c.self.view_is
+    (λ i less apart. rw (get_or-set_other r.feet.items k i foot none apart) refl))

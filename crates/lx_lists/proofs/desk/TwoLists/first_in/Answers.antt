@@ -10,6 +10,5 @@ follow-requires g c = record {
 }
 
 pub invariant_of-self-2 : goal.invariant_of-self-2
-invariant_of-self-2 g c = first_kept c.args.command.now c.in_ok-change.change c.in_ok-change.change c.self.inside.first c.self.inside.second
-    c.command_in.new.self c.self.inside.output c.follow.new.self c.self.invariant c.in_ok-change.ensures.answers
+invariant_of-self-2 g c = first_kept c.in_ok-change.change c.self.invariant c.in_ok-change.ensures.answers
     c.in_ok-change.ensures.changes (c.in_ok-change.ensures.moment c.requires.taken) c.follow.ensures

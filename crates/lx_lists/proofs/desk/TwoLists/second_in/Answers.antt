@@ -7,17 +7,11 @@ refill-requires-clause-channels g c =
     same_channels c.in_ok-change.change c.self.inside.second c.command_in.new.self c.in_ok-change.ensures.changes ∙ c.self.invariant.channels
 
 pub invariant_of-self-then-not-is_nothing : goal.invariant_of-self-then-not-is_nothing
-invariant_of-self-then-not-is_nothing g c =
-    second_kept c.args.command.now c.in_ok-change.change c.in_ok-change.change c.self.inside.first c.self.inside.second
-    c.command_in.new.self c.self.inside.output c.refill.new.self c.self.invariant c.in_ok-change.ensures.answers
+invariant_of-self-then-not-is_nothing g c = second_kept c.in_ok-change.change c.self.invariant c.in_ok-change.ensures.answers
     c.in_ok-change.ensures.changes (c.in_ok-change.ensures.moment (second_no_tick c.args.command.now c.requires.taken)) c.refill.ensures
 
 pub invariant_of-self-else-not-is_nothing : goal.invariant_of-self-else-not-is_nothing
-invariant_of-self-else-not-is_nothing g c =
-    second_kept c.args.command.now c.in_ok-change.change c.in_ok-change.change c.self.inside.first
-    c.self.inside.second c.command_in.new.self c.self.inside.output c.self.inside.output c.self.invariant c.in_ok-change.ensures.answers
+invariant_of-self-else-not-is_nothing g c = second_kept c.in_ok-change.change c.self.invariant c.in_ok-change.ensures.answers
     c.in_ok-change.ensures.changes (c.in_ok-change.ensures.moment (second_no_tick c.args.command.now c.requires.taken))
-    (filled_still c.self.inside.first c.self.inside.second c.self.inside.first c.command_in.new.self c.self.inside.output
-    c.self.invariant.channels c.self.invariant.filled (as_before c.self.inside.first)
-    (same_outputs c.in_ok-change.change c.self.inside.second c.command_in.new.self (sym c.is_nothing.ensures ∙ c.if-not-is_nothing.false)
-    c.in_ok-change.ensures.changes))
+    (filled_still c.self.invariant.channels c.self.invariant.filled (as_before c.self.inside.first)
+    (same_outputs c.in_ok-change.change (sym c.is_nothing.ensures ∙ c.if-not-is_nothing.false) c.in_ok-change.ensures.changes))

@@ -17,18 +17,12 @@ unreachable-requires c =
     (c.in_default.ensures.obeys desks.second stand.second).err
 
 pub invariant_of-self-then-not-is_nothing : goal.invariant_of-self-then-not-is_nothing
-invariant_of-self-then-not-is_nothing c = ticked_kept c.in_ok-first.first c.in-Ok.second c.self.inside.first c.self.inside.second
-    c.tick.new.self c.tick-2.new.self c.self.inside.output c.refill.new.self c.self.invariant c.in_ok-first.ensures.obeys
-    c.in-Ok.ensures.obeys c.in_ok-first.ensures.show c.in-Ok.ensures.show c.in_ok-first.ensures.moment c.in-Ok.ensures.moment
-    c.refill.ensures
+invariant_of-self-then-not-is_nothing c = ticked_kept c.self.invariant c.in_ok-first.ensures.obeys c.in-Ok.ensures.obeys
+    c.in_ok-first.ensures.show c.in-Ok.ensures.show c.in_ok-first.ensures.moment c.in-Ok.ensures.moment c.refill.ensures
 
 pub invariant_of-self-else-not-is_nothing-2 : goal.invariant_of-self-else-not-is_nothing-2
-invariant_of-self-else-not-is_nothing-2 c = ticked_kept c.in_ok-first.first c.in-Ok.second c.self.inside.first c.self.inside.second
-    c.tick.new.self c.tick-2.new.self c.self.inside.output c.self.inside.output c.self.invariant c.in_ok-first.ensures.obeys
-    c.in-Ok.ensures.obeys c.in_ok-first.ensures.show c.in-Ok.ensures.show c.in_ok-first.ensures.moment c.in-Ok.ensures.moment
-    (filled_still c.self.inside.first c.self.inside.second c.tick.new.self c.tick-2.new.self c.self.inside.output c.self.invariant.channels
-    c.self.invariant.filled
-    (same_outputs c.in_ok-first.first c.self.inside.first c.tick.new.self (sym c.is_nothing.ensures ∙ c.if-not-is_nothing.false)
-    c.in_ok-first.ensures.changes)
-    (same_outputs c.in-Ok.second c.self.inside.second c.tick-2.new.self
-    (sym c.is_nothing-else-not-is_nothing.ensures ∙ c.if-not-is_nothing-2.false) c.in-Ok.ensures.changes))
+invariant_of-self-else-not-is_nothing-2 c = ticked_kept c.self.invariant c.in_ok-first.ensures.obeys c.in-Ok.ensures.obeys
+    c.in_ok-first.ensures.show c.in-Ok.ensures.show c.in_ok-first.ensures.moment c.in-Ok.ensures.moment
+    (filled_still c.self.invariant.channels c.self.invariant.filled
+    (same_outputs c.in_ok-first.first (sym c.is_nothing.ensures ∙ c.if-not-is_nothing.false) c.in_ok-first.ensures.changes)
+    (same_outputs c.in-Ok.second (sym c.is_nothing-else-not-is_nothing.ensures ∙ c.if-not-is_nothing-2.false) c.in-Ok.ensures.changes))

@@ -1,8 +1,7 @@
-use Rattle.lx_sheet.proofs.Imports.{◌≡◌, ◌+◌, ℕ, List, [], ◌∷◌, length, refl, ap, sym, ◌∙◌, arith, insert, length_refill}
-use Rattle.lx_sheet.proofs.Imports.{with_items_is, IsStrictlySorted, GoesAt, Cue, Show, with_cue, Sheet, Marks, Place, row_at_place, FillsRows}
+use Rattle.lx_sheet.proofs.Imports.{◌≡◌, ◌+◌, ℕ, List, [], ◌∷◌, length, refl, ap, sym, ◌∙◌, arith, insert, length_refill, ◌≤◌, with_items_is}
+use Rattle.lx_sheet.proofs.Imports.{IsStrictlySorted, GoesAt, Cue, Show, with_cue, Marks, Place, row_at_place}
 use Rattle.std.proofs.lemmas.List.Edits.{length-insert}
-use Rattle.lx_sheet.proofs.BlockReach.{block_inserted, block_longer}
-use Rattle.lx_sheet.proofs.MarkedRows.{AtPlaces, at_places, grown_places, marks_kept, marks_reached, remarked, stands_of}
+use Rattle.lx_sheet.proofs.MarkedRows.{AtPlaces, at_places, grown_places, has_places, remarked, row_came, rows_held, stands_of}
 use Rattle.lx_sheet.proofs.Numbers.{absent_alike}
 use Rattle.lx_sheet.proofs.RightRows.{order_length}
 use Rattle.lx_sheet.proofs.RowPool.{own_apart}
@@ -18,130 +17,76 @@ came {before} {at = at} {n} row cue stood sorted cues_sorted goes added number n
     (added ∙ rw (goes.before, goes.after) refl) (ap (λ (s : Show). s.cues) now ∙ placed_there before cue number) (λ i. sym number i ∷ [])
     (rw goes.absent (omega arith)) refl
 
+grew : (old : List Place) {new : List Place} (at : ℕ) (p : Place) → new ≡ insert old at p → at ≤ length old → length new ≡ length old + 1
+grew old at p added within = ap length added ∙ length-insert old at p within
+
 pub own_row-row-requires-clause-rows : goal.own_row-row-requires-clause-rows
 own_row-row-requires-clause-rows c = rw c.deref.ensures.value (own_apart c.add_place.ensures.kept.pool)
 
 pub own_row-row-requires-clause-place : goal.own_row-row-requires-clause-place
-own_row-row-requires-clause-place c = omega (
-  arith,
-  ap length c.deref.ensures.value,
-  ap length c.in-Some.ensures.added ∙ length-insert c.self.inside.order.items c.in-Some.at _ c.in-Some.ensures.goes.within,
-  c.in-Some.ensures.goes.within,
-)
+own_row-row-requires-clause-place c =
+    let more = grew c.self.inside.order.items c.in-Some.at _ c.in-Some.ensures.added c.in-Some.ensures.goes.within in
+    omega (arith, ap length c.deref.ensures.value, more, c.in-Some.ensures.goes.within)
 
 pub fill_inserted-requires-clause-places : goal.fill_inserted-requires-clause-places
 fill_inserted-requires-clause-places c =
-    rw (
-      ap length c.deref_mut-then-len-cues.ensures.value ∙ c.self.invariant.look_room,
-      c.deref_mut.ensures.value,
-      c.deref-then-len-cues.ensures.value,
-    ) (record {
-      block = block_inserted c.in-Some.at c.args.n c.self.invariant.block c.add_place.ensures.kept.pool c.in-Some.ensures.added
-          c.deref.ensures.value
-          c.own_row-row.ensures.row c.reach.ensures.length;
-      places = omega (arith, c.if-len-cues.true, c.len.ensures, c.add_place.new.order.ok);
-      valid = rw (ap (λ (s : Sheet). s.channels) c.self.view_is ∙ c.requires, c.cues-cues.ensures.cues) c.cues-cues.ensures.valid.cues;
-    })
+    rw (ap length c.deref_mut-then-len-cues.ensures.value ∙ c.self.invariant.look_room, c.deref_mut.ensures.value)
+    (rw (c.deref-then-len-cues.ensures.value, c.cues-cues.ensures.cues)
+    (has_places c.cues-cues.ensures.valid (rw (← c.self.view_is) at c.requires)
+    (row_came c.in-Some.at c.args.n c.self.invariant c.add_place.ensures.kept c.in-Some.ensures.added c.deref.ensures.value
+    c.own_row-row.ensures.row c.reach.ensures.length c.reach.ensures.room c.reach-in-Some.ensures.table c.reach-in-Some.ensures.reach).block
+    (omega (arith, c.if-len-cues.true, c.len.ensures, c.add_place.new.order.ok, ap length c.cues-cues.ensures.cues))))
 
 pub returns-then-len-cues : goal.returns-then-len-cues
 returns-then-len-cues c = λ before cue stands number absent now.
-    let show : Show = c.args.show.now in
-    let at : ℕ = c.in-Some.at in
-    let channels : ℕ = c.self.inside.channels in
-    let old : List Place = c.self.inside.order.items in
-    let new : List Place = c.add_place.new.order.items in
-    let levels : List ℕ = c.reach.new.levels.items in
-    let filled : List ℕ = c.fill_inserted.new.levels in
-    let was : AtPlaces before channels old c.self.inside.levels.items c.self.inside.marks =
-    at_places c.self.invariant.kept.sorted (rw c.self.view_is stands) in
-    let stood : AtPlaces before channels old levels c.self.inside.marks = grown_places was c.reach.ensures.same in
-    let s : IsShifted before show old new at at (at + 1) = came _ cue stood c.add_place.ensures.kept.sorted
-    c.cues-cues.ensures.valid.cues_sorted
-    c.in-Some.ensures.goes c.in-Some.ensures.added number now in
-    let fills : FillsRows channels new show.cues levels filled at (at + 1) =
-    (rw (
-      ap length c.deref_mut-then-len-cues.ensures.value ∙ c.self.invariant.look_room,
-      c.deref-then-len-cues.ensures.value,
-      c.cues-cues.ensures.cues,
-      c.deref_mut.ensures.value,
-    ) at c.fill_inserted.ensures) (passed s stood) in
-    let block = block_inserted at c.args.n c.self.invariant.block c.add_place.ensures.kept.pool c.in-Some.ensures.added
-    c.deref.ensures.value
-    c.own_row-row.ensures.row c.reach.ensures.length in
-    rw (with_items_is c.reach.new.levels filled (omega arith))
-    (stands_of (places_shifted s stood fills
-    (remarked block (omega (arith, order_length s.now, s.cues.long, order_length stood.is, c.in-Some.ensures.goes.within))
-    (c.own_row-row.ensures.row ∙ ap (λ (xs : List Place). row_at_place xs at) c.deref.ensures.value)
+    let held = row_came c.in-Some.at c.args.n c.self.invariant c.add_place.ensures.kept c.in-Some.ensures.added c.deref.ensures.value
+    c.own_row-row.ensures.row c.reach.ensures.length c.reach.ensures.room c.reach-in-Some.ensures.table c.reach-in-Some.ensures.reach in
+    let was = at_places _ _ c.self.view_is c.self.invariant.kept.sorted stands in
+    let stood = grown_places was c.reach.ensures.same in
+    let s = came _ cue stood c.add_place.ensures.kept.sorted c.cues-cues.ensures.valid.cues_sorted c.in-Some.ensures.goes
+    c.in-Some.ensures.added number now in
+    let fills = rw (c.deref-then-len-cues.ensures.value, c.cues-cues.ensures.cues, c.deref_mut.ensures.value) at
+    (rw (ap length c.deref_mut-then-len-cues.ensures.value ∙ c.self.invariant.look_room) at c.fill_inserted.ensures) in
+    rw (with_items_is c.reach.new.levels c.fill_inserted.new.levels (omega arith))
+    (stands_of (places_shifted s stood (fills (passed s stood))
+    (remarked held.block (omega (arith, order_length s.now, s.cues.long, order_length stood.is, c.in-Some.ensures.goes.within))
+    (c.own_row-row.ensures.row ∙ ap (λ (xs : List Place). row_at_place xs c.in-Some.at) c.deref.ensures.value)
     (rw c.cues-cues.ensures.cues at c.index-cues-at.is)
     (omega (arith, c.self.invariant.marked.table.groups, c.reach-in-Some.ensures.table.groups)) c.write.ensures.here
     (λ r x apart least most. c.write.ensures.others r x apart least most ∙ c.reach-in-Some.ensures.same r x))
-    (ap (λ (s : Sheet). s.channels) c.self.view_is ∙ c.requires)))
+    (rw (← c.self.view_is) at c.requires)))
 
 pub returns-else-len-cues : goal.returns-else-len-cues
 returns-else-len-cues c = λ before cue stands number absent now.
-    let was : AtPlaces before c.self.inside.channels c.self.inside.order.items c.self.inside.levels.items c.self.inside.marks =
-    at_places c.self.invariant.kept.sorted (rw c.self.view_is stands) in
-    let more = ap length c.in-Some.ensures.added ∙ length-insert c.self.inside.order.items c.in-Some.at _ c.in-Some.ensures.goes.within in
-    absurd (c.if-len-cues.false (omega (
-      arith,
-      c.add_place.new.order.ok,
-      one_more cue was.is number absent now,
-      more,
-      ap length c.cues-cues.ensures.cues,
-    )))
+    let was = at_places _ _ c.self.view_is c.self.invariant.kept.sorted stands in
+    let more = grew c.self.inside.order.items c.in-Some.at _ c.in-Some.ensures.added c.in-Some.ensures.goes.within in
+    absurd (c.if-len-cues.false (omega
+    (arith, c.add_place.new.order.ok, one_more cue was.is number absent now, more, ap length c.cues-cues.ensures.cues)))
 
 pub returns-in_default : goal.returns-in_default
 returns-in_default c = λ before cue stands number absent now.
-    let was : AtPlaces before c.self.inside.channels c.self.inside.order.items c.self.inside.levels.items c.self.inside.marks =
-    at_places c.self.invariant.kept.sorted (rw c.self.view_is stands) in
-    absurd (omega (
-      arith,
-      c.add_place.ensures.none c.in_default.is
-          (absent_alike (λ (x : Cue). x.number) (λ (p : Place). p.cue) c.args.n before.cues c.self.inside.order.items (sym was.is.numbers)
-          absent),
-      one_more cue was.is number absent now,
-      c.cues-cues.ensures.valid.few_cues,
-    ))
+    let was = at_places _ _ c.self.view_is c.self.invariant.kept.sorted stands in
+    let full = c.add_place.ensures.none c.in_default.is (absent_alike (λ (x : Cue). x.number) (λ (p : Place). p.cue) c.args.n before.cues
+    c.self.inside.order.items (sym was.is.numbers) absent) in
+    absurd (omega (arith, full, one_more cue was.is number absent now, c.cues-cues.ensures.valid.few_cues))
 
 pub invariant_of-self : goal.invariant_of-self
-invariant_of-self c =
-    let filled = ap length (with_items_is c.reach.new.levels c.fill_inserted.new.levels (omega arith)) in record {
-      kept = c.add_place.ensures.kept;
-      block = block_longer (block_inserted c.in-Some.at c.args.n c.self.invariant.block c.add_place.ensures.kept.pool
-          c.in-Some.ensures.added
-          c.deref.ensures.value c.own_row-row.ensures.row c.reach.ensures.length) (omega (arith, filled));
-      level_room = omega (arith, c.reach.ensures.room, c.self.invariant.level_room);
-      look_room = omega (arith, length_refill c.self.inside.look.len c.self.inside.look.items c.fill_inserted.new.look (omega arith));
-      marked = marks_kept (marks_reached (c.own_row-row.result + 1) c.self.invariant.marked c.reach-in-Some.ensures.table
-          c.reach-in-Some.ensures.reach c.reach.ensures.length) c.write.ensures.table (filled ∙ omega arith);
-    }
+invariant_of-self c = rows_held
+    (row_came c.in-Some.at c.args.n c.self.invariant c.add_place.ensures.kept c.in-Some.ensures.added c.deref.ensures.value
+    c.own_row-row.ensures.row c.reach.ensures.length c.reach.ensures.room c.reach-in-Some.ensures.table c.reach-in-Some.ensures.reach)
+    c.write.ensures.table (ap length (with_items_is c.reach.new.levels c.fill_inserted.new.levels (omega arith)) ∙ omega arith)
+    (omega (arith, length_refill c.self.inside.look.len c.self.inside.look.items c.fill_inserted.new.look (omega arith)))
 
 pub invariant_of-self-else-len-cues : goal.invariant_of-self-else-len-cues
-invariant_of-self-else-len-cues c = record {
-  kept = c.add_place.ensures.kept;
-  block = block_inserted c.in-Some.at c.args.n c.self.invariant.block c.add_place.ensures.kept.pool c.in-Some.ensures.added
-      c.deref.ensures.value
-      c.own_row-row.ensures.row c.reach.ensures.length;
-  level_room = omega (arith, c.reach.ensures.room, c.self.invariant.level_room);
-  look_room = c.self.invariant.look_room;
-  marked = marks_reached (c.own_row-row.result + 1) c.self.invariant.marked c.reach-in-Some.ensures.table c.reach-in-Some.ensures.reach
-      c.reach.ensures.length;
-}
+invariant_of-self-else-len-cues c =
+    row_came c.in-Some.at c.args.n c.self.invariant c.add_place.ensures.kept c.in-Some.ensures.added c.deref.ensures.value
+    c.own_row-row.ensures.row c.reach.ensures.length c.reach.ensures.room c.reach-in-Some.ensures.table c.reach-in-Some.ensures.reach
 
 pub invariant_of-self-in_default : goal.invariant_of-self-in_default
-invariant_of-self-in_default c = assumption (
-  c.self.invariant,
-  c.add_place.ensures.kept,
-  rw (← c.add_place.ensures.same c.in_default.is) at
-      c.self.invariant.block,
-)
+invariant_of-self-in_default c =
+    assumption (c.self.invariant, c.add_place.ensures.kept, rw (← c.add_place.ensures.same c.in_default.is) at c.self.invariant.block)
 
 pub bounds-cues-at : goal.bounds-cues-at
-bounds-cues-at c = omega (
-  arith,
-  c.if-len-cues.true,
-  c.len.ensures,
-  c.add_place.new.order.ok,
-  ap length c.in-Some.ensures.added ∙ length-insert c.self.inside.order.items c.in-Some.at _ c.in-Some.ensures.goes.within,
-  c.in-Some.ensures.goes.within,
-)
+bounds-cues-at c =
+    let more = grew c.self.inside.order.items c.in-Some.at _ c.in-Some.ensures.added c.in-Some.ensures.goes.within in
+    omega (arith, c.if-len-cues.true, c.len.ensures, c.add_place.new.order.ok, more, c.in-Some.ensures.goes.within)

@@ -1,7 +1,6 @@
-use Rattle.lx_sheet.proofs.Imports.{length, ap, sym, ◌∙◌, refl, arith, StandsAt, Sheet}
-use Rattle.lx_sheet.proofs.Imports.{is_marked}
+use Rattle.lx_sheet.proofs.Imports.{length, ap, sym, refl, arith}
 use Rattle.lx_sheet.proofs.BlockReach.{covered_at}
-use Rattle.lx_sheet.proofs.MarkedRows.{marked_absent, marked_anew, marked_others, marks_kept}
+use Rattle.lx_sheet.proofs.MarkedRows.{marked_absent, marked_anew, marked_others, rows_held}
 use Rattle.lx_sheet.proofs.sheet.Sheet.mark.Goals as goal
 
 pub index_of-requires : goal.index_of-requires
@@ -16,17 +15,14 @@ write-requires-clause-reach c = c.self.invariant.marked.reached c.own_row.result
 
 pub returns-in-Ok-clause-others : goal.returns-in-Ok-clause-others
 returns-in-Ok-clause-others c = λ m chan other.
-    let place : StandsAt (λ p. p.cue) c.args.n c.self.inside.order.items c.in-Ok.place =
-    rw (c.get.ensures.value, c.as_slice.ensures.value) at c.in-Ok.ensures.stands in
+    let place = rw (c.get.ensures.value, c.as_slice.ensures.value) at c.in-Ok.ensures.stands in
     let others = rw (c.own_row.ensures.row, c.deref.ensures.value) at c.write.ensures.others in
-    marked_others c.self.inside.marks c.write.new.self c.self.invariant.block place
-    (λ r x apart least most. others r x apart least (omega (arith, most, c.self.invariant.marked.table.groups))) m chan other
-    ∙ ap (λ (s : Sheet). is_marked s m chan) c.self.view_is
+    rw (← c.self.view_is) (marked_others c.self.inside.marks c.write.new.self c.self.invariant.block place
+    (λ r x apart least most. others r x apart least (omega (arith, most, c.self.invariant.marked.table.groups))) m chan other)
 
 pub returns-in-Ok-clause-marks : goal.returns-in-Ok-clause-marks
 returns-in-Ok-clause-marks c =
-    let place : StandsAt (λ p. p.cue) c.args.n c.self.inside.order.items c.in-Ok.place =
-    rw (c.get.ensures.value, c.as_slice.ensures.value) at c.in-Ok.ensures.stands in
+    let place = rw (c.get.ensures.value, c.as_slice.ensures.value) at c.in-Ok.ensures.stands in
     let here = rw (c.own_row.ensures.row, c.deref.ensures.value) at c.write.ensures.here in
     marked_anew c.args.show.now c.self.inside.levels.items c.write.new.self place (sym c.in-Some.ensures.cue)
     (λ x least most. here x least (omega (arith, most, c.self.invariant.marked.table.groups)))
@@ -37,4 +33,4 @@ returns-in_default-index_of-clause-marks c = rw (← c.self.view_is) (marked_abs
     (rw (c.get.ensures.value, c.as_slice.ensures.value) at c.in_default-index_of.ensures.goes.absent))
 
 pub invariant_of-self : goal.invariant_of-self
-invariant_of-self c = assumption (c.self.invariant, marks_kept c.self.invariant.marked c.write.ensures.table refl)
+invariant_of-self c = rows_held c.self.invariant c.write.ensures.table refl refl

@@ -4,15 +4,13 @@ use Rattle.lx_workers.proofs.lane.Lane.finish.Goals as goal
 
 pub returns-then-is_some-clause-delivered : goal.returns-then-is_some-clause-delivered
 returns-then-is_some-clause-delivered g c = λ start from h.
-    delivered_part _ _ start _ from _ _ _
-    (served_learnt _ _ start _ _ from _ _ _ h c.learn_last.ensures.learnt c.learn_last.ensures.chained c.learn_last.ensures.universe) (search rules)
-    c.learn_last.ensures.all
+    let l = c.learn_last.ensures in
+    rw (← l.all) (delivered_part (served_learnt h _ l.learnt l.chained l.universe) (search rules))
 
 pub returns-clause-delivered : goal.returns-clause-delivered
 returns-clause-delivered g c = λ start from h.
-    delivered_newest _ _ start _ from _ _ _ _ _
-    (served_learnt _ _ start _ _ from _ _ _ h c.learn_last.ensures.learnt c.learn_last.ensures.chained c.learn_last.ensures.universe)
-    c.put_newest.ensures c.learn_last.ensures.all
+    let l = c.learn_last.ensures in
+    rw (← l.all) (delivered_newest (served_learnt h _ l.learnt l.chained l.universe) c.put_newest.ensures)
 
 pub returns-clause-seen : goal.returns-clause-seen
 returns-clause-seen g c =
