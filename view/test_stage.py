@@ -47,15 +47,16 @@ class Terminal:
         """What stands on the screen."""
         return self.tmux("capture-pane", "-t", "a", "-p").splitlines()
 
-    def until(self, text: str, limit: float = 20) -> list[str]:
-        """Waits until a text stands on the screen."""
+    def until(self, *texts: str, limit: float = 20) -> list[str]:
+        """Waits until each of some texts stands on the screen, all at once."""
         end = time.monotonic() + limit
         while True:
             screen = self.screen()
-            if any(re.search(text, line) for line in screen):
+            missing = [text for text in texts if not any(re.search(text, line) for line in screen)]
+            if not missing:
                 return screen
             if time.monotonic() > end:
-                raise TimeoutError(f"{text!r} doesn't come; the screen is {[line for line in screen if line]}")
+                raise TimeoutError(f"{missing} doesn't come; the screen is {[line for line in screen if line]}")
             time.sleep(0.05)
 
     def shape(self, columns: int, rows: int) -> None:
@@ -110,22 +111,28 @@ def wrong_bars(program: str, screen: list[str]) -> list[str]:
     return wrong + ([] if found else [f"no universe on the screen: {[line for line in screen if line]}"])
 
 
+def wrong_look(program: str, terminal: Terminal) -> list[str]:
+    """Where the bars on the screen are wrong. A screen may be caught while it is being drawn, so a second look counts."""
+    return wrong_bars(program, terminal.screen()) and wrong_bars(program, terminal.screen())
+
+
 def bars(program: str, folder: str) -> list[str]:
     """Bars that are right while they move, at ten moments; after the end the terminal is as it was, with the last stage below."""
     wrong, seen = [], set()
+    last = r"^universe 1  8\.00 s .*closed"
     with Terminal(90, 24) as terminal:
         terminal.type("echo before")
         start(terminal, program, outlets(folder, "bars", 2), LIVE, 2)
-        terminal.until("universe 1")
+        terminal.until("^universe 1", "^universe 2")
         for _ in range(10):
-            screen = terminal.screen()
-            if any("before" in line for line in screen):
-                break
-            wrong += wrong_bars(program, screen)
+            look, screen = wrong_look(program, terminal), terminal.screen()
+            if "before" in screen:
+                break  # The run ended while it was looked at.
+            wrong += look
             seen.add(tuple(screen))
             time.sleep(0.3)
-        terminal.until(r"universe 1  8\.00 s .*closed", 40)
-        screen = terminal.until(r"^before$")
+        # What was there comes back a moment before the last stage stands below it, and then the shell's prompt.
+        screen = terminal.until("^before$", last, r"^\$ ?$", limit=40)
         wrong += wrong_bars(program, screen)
     text = "\n".join(screen)
     wrong += ["the last stage isn't below what was there"] * ("before" not in text.split("universe 1")[0]) + ["nothing moved"] * (len(seen) < 4)
@@ -141,8 +148,7 @@ def interrupt(program: str, folder: str) -> list[str]:
         terminal.until(r" 1 █{20,}")
         terminal.shape(50, 12)
         time.sleep(0.4)
-        screen = terminal.screen()
-        wrong += wrong_bars(program, screen) + [f"{line!r} is too long" for line in screen if len(line) > 50]
+        wrong += wrong_look(program, terminal) + [f"{line!r} is too long" for line in terminal.screen() if len(line) > 50]
         terminal.type("", "C-c")
         terminal.type("echo status $?")
         screen = terminal.until(r"status \d+$")
@@ -186,7 +192,7 @@ def grid(program: str, folder: str) -> list[str]:
                 time.sleep(0.05)
             wrong += rows
             terminal.type("", "End")
-            terminal.until(r"^ 481  ", 5)
+            terminal.until(r"^ 481  ", limit=5)
             terminal.type("", "q")
             terminal.until(r"\$ ?$")
     return wrong
@@ -196,8 +202,8 @@ def script(program: str, folder: str) -> list[str]:
     """examples/live.sh draws by the stage."""
     with Terminal(80, 24) as terminal:
         terminal.type(f"CUEDESK={program} {TOP}/examples/live.sh; echo ended $?")
-        screen = terminal.until(r" 1 █{10,}")
-        wrong = wrong_bars(program, screen)
+        terminal.until(r" 1 █{10,}")
+        wrong = wrong_look(program, terminal)
         terminal.type("", "q")
         screen = terminal.until(r"ended \d+$")
         return wrong + ([] if any("ended 0" in line for line in screen) else [f"it ended so: {screen[-3:]}"])
@@ -267,7 +273,7 @@ def plain_letters(_: str, folder: str) -> list[str]:
                 outlet.write(f"frame 1 2 1 {cells}\n")
                 outlet.flush()
                 try:
-                    terminal.until(wanted, 5)
+                    terminal.until(wanted, limit=5)
                 except TimeoutError as error:
                     wrong.append(str(error))
     return wrong

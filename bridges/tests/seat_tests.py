@@ -67,7 +67,7 @@ def every_key(_program: str) -> List[str]:
             for key in keys:
                 seat.keys(key)
             if said:
-                seat.until(re.escape(said) + "$", 5)
+                seat.until(re.escape(said) + "$", limit=5)
         seat.line("set 2 chan 1 at 80")
         seat.until("set 2 chan 1 at 80: ok$")
         seat.line("set 9 chan 1 at 80")
