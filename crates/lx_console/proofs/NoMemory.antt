@@ -1,4 +1,4 @@
--- A key or a tick is never refused for want of memory.
+-- A key or a tick is never refused as out of memory.
 use Rattle.lx_console.proofs.Imports.{◌≡◌, ◌≢◌, ◌==◌, ◌∙◌, ℕ, Bool, true, false, ap, Result, Ok, Err, IfErr, if◌then◌else◌, TICK_END, Show}
 use Rattle.lx_console.proofs.Imports.{PlayKey, Refusal, PlaybackFull, AbsentSub, TickLimit, Playback, Played, appended, has_room, press, tick, ticked}
 use Rattle.lx_spec.specs.declared.Refusal.TheVariants.{Memory}

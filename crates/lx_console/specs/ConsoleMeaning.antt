@@ -31,13 +31,13 @@ pub record Obeys {A : Type 0} (d : Desk) (command : Command) (answer : Result A 
   pub ok : OnOk answer (IsOkAnd (step d command) (λ next. StandsFor next console))
   pub err : IfErr answer (λ refusal. step d command ≡ Err refusal)
 
--- lack of memory refuses an edit that may take some, and that the desk accepts
+-- out of memory refuses an edit that may take some, and that the desk accepts
 pub record WantsMemory (d : Desk) (command : Command) (refusal : Refusal) : Type 0 where
   pub takes_some : may_lack_memory command ≡ true
   pub memory : refusal ≡ Memory
   pub accepted : IsOk (step d command)
 
--- a refusal is the desk's own, or lack of memory at an edit that may take some
+-- a refusal is the desk's own, or out of memory at an edit that may take some
 abbrev pub Refuses : Desk → Command → Refusal → Type 0
 Refuses d command refusal = (step d command ≡ Err refusal) ⊎ WantsMemory d command refusal
 

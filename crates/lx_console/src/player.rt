@@ -267,7 +267,7 @@ impl Player {
 
     /// An edit of the show; or a key or a tick, as by `press` and `tick`.
     ///
-    /// An edit is refused for what it names and the show lacks, or for a limit, and for lack of memory only
+    /// An edit is refused for what it names and the show lacks, or for a limit, and as out of memory only
     /// where nothing else refuses it. Rows and levels are then those of the edited show, also where fades are
     /// under way. A refusal changes nothing.
     pub fn command(&mut self, command: &Command) -> Result<Change, Refusal>

@@ -134,7 +134,7 @@ fn play_live<
     }
 }
 
-/// The status of a live run: the session's fault first, then a write that failed, then lack of memory.
+/// The status of a live run: the session's fault first, then a write that failed, then out of memory.
 fn status_of_run(played: &LiveOutcome) -> Status
     ensures { TellsRun played.now.session played.now.outlets played.now.unsent result }
 {

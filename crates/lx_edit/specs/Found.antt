@@ -34,6 +34,6 @@ pub record Fits (channels : ℕ) (parts : List Part) (m : Move) : Type 0 where
   pub chan : m.chan ≤ channels
   pub part : IsTrue (has_entry (λ p. p.number) m.part parts)
 
--- what was looked for is absent: the refusal says so, and isn't want of memory
+-- what was looked for is absent: the refusal says so, and isn't out of memory
 abbrev pub IsAbsence : {T : Type 0} → Result T Refusal → Refusal → Type 0
 IsAbsence answer refusal = (answer ≡ Err refusal) × (refusal ≢ Memory)

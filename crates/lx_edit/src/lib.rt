@@ -1,5 +1,5 @@
 //! Edits of a show: planned whole, and then applied whole. A plan is refused where the edit is, for what it
-//! names and the show lacks, for a stated limit, or for lack of memory, and nothing is changed. It takes all
+//! names and the show lacks, for a stated limit, or as out of memory, and nothing is changed. It takes all
 //! memory that the edit needs, so that to apply it takes none.
 #![tactic(auto)]
 

@@ -15,7 +15,7 @@ use Rattle.lx_undo.specs.UndoDeskMeaning.{UndoStands}
 use Rattle.lx_embed.specs.declared.engine.Engine.{Engine}
 use Rattle.lx_embed.specs.declared.engine.Engine.TheVariants.{Plain, Undo}
 
--- The session that begins at the state goes on by the line, of which an attempt failed for lack of memory only where one may. The desk then
+-- The session that begins at the state goes on by the line, of which an attempt failed as out of memory only where one may. The desk then
 -- stands for the state after it, and what is kept is the text of the reply, or at a fault a front of it. It answers false exactly for `quit`.
 pub record AnswersLine (by : Answering (List ℕ)) (Stands : by.State → Type 0) (state : by.State) (line : List ℕ)
     (result : Result Bool SinkFault) (reply : List ℕ) : Type 0 where

@@ -70,7 +70,7 @@ impl HostDesk {
     }
 
     /// Does one line of a script, and keeps its reply in the place of the last. It answers false exactly for `quit`. A line that is too
-    /// long is bad. Where the desk's heap refused nothing in this call, no edit and no record was refused for want of memory.
+    /// long is bad. Where the desk's heap refused nothing in this call, no edit and no record was refused as out of memory.
     ///
     /// A fault comes only where memory was refused for the reply: the line was done, and of its reply a front is kept.
     pub fn command(&mut self, line: &[u8]) -> Result<bool, SinkFault>
@@ -83,7 +83,7 @@ impl HostDesk {
     }
 
     /// The same, by a heap, which edits and records take their memory from: where it refused nothing in this call, none was refused
-    /// for want of memory.
+    /// as out of memory.
     pub fn command_in<H: Heap>(&mut self, heap: &mut H, line: &[u8]) -> Result<bool, SinkFault>
         ensures answered { ByMemory (H.refusals heap.old) (H.refusals heap.new)
             (λ ample. Answered ample self.old.engine self.new.engine line.now result (reply_bytes self.new.reply)) }

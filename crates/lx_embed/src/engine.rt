@@ -52,7 +52,7 @@ impl Engine {
     }
 
     /// Does one line of a script, and keeps its reply, in the place of the last. It answers false exactly for `quit`. Where the heap
-    /// refused nothing in this call, no attempt failed for memory.
+    /// refused nothing in this call, no attempt failed as out of memory.
     ///
     /// A fault comes only where memory was refused for the reply: the line was done, and of its reply a front is kept.
     pub(crate) fn answer_in<H: Heap>(

@@ -68,8 +68,8 @@ abbrev pub put_in_front : List ℕ → List ℕ → List ℕ
 put_in_front bytes room = take (length room) bytes ++ drop (length bytes) room
 
 -- The line was answered by every desk for which the engine stood, and as much of the reply as fits was put into the front of the room; all the
--- rest is as it was. Where the desk's heap refused nothing no edit was refused for memory, and MEMORY comes only where that of the reply refused
--- some.
+-- rest is as it was. Where the desk's heap refused nothing no edit was refused as out of memory, and MEMORY comes only where the heap of
+-- the reply refused some.
 pub record DidLine (status : ℕ) (before now : HostDesk) (line room room' : List ℕ) (count : ℕ) : Type 0 where
   pub answer : Result Bool SinkFault
   pub fits : Bool

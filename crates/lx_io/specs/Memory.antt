@@ -48,19 +48,19 @@ after_write store piece (Ok n) = record store { bytes = store.bytes ++ piece; ca
 after_write store piece (Err Failed) = record store { calls = one_more store.calls; faults = one_more store.faults }
 after_write store piece (Err Memory) = record store { calls = one_more store.calls; wants = one_more store.wants }
 
--- the write failed, and it was not for lack of memory
+-- the write failed, and it was not out of memory
 abbrev pub HasFailed : {T : Type 0} → Result T SinkFault → Type 0
 HasFailed (Ok x) = ⊥
 HasFailed (Err Failed) = ⊤
 HasFailed (Err Memory) = ⊥
 
--- the numbers of a heap's calls that are refused, how many calls wanted memory, and how many were refused
+-- the numbers of a heap's calls that are refused, how many calls for memory there were, and how many were refused
 pub record FailingHeap : Type 0 where
   pub fails : List ℕ
   pub calls : ℕ
   pub refusals : ℕ
 
--- the heap after a call that wanted memory and had this answer: it counts
+-- the heap after a call for memory that had this answer: it counts
 abbrev pub after_want : {T E : Type 0} → FailingHeap → Result T E → FailingHeap
 after_want heap (Ok x) = record heap { calls = one_more heap.calls }
 after_want heap (Err e) = record heap { calls = one_more heap.calls; refusals = one_more heap.refusals }

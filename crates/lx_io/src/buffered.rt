@@ -6,6 +6,7 @@ ghost use Rattle.std.specs.Bool.{OnTrue};
 ghost use Rattle.std.specs.Io.KnownBytes.{Appends, Keeps};
 ghost use Rattle.lx_io.specs.Puts.{HasSinkCause, Puts};
 ghost use Rattle.lx_io.specs.SinkCalls.{HasSinkCauseBy, PutsBy};
+ghost use Rattle.lx_io.specs.declared.buffered.TheConstants.{ROOM};
 
 use crate::room::write_behind;
 use crate::{Sink, SinkFault, TEXT_ROOM, Text};
@@ -28,7 +29,7 @@ pub struct BufferedSink<K> {
     room: Vec<u8>,
     len: usize,
     ghost within: { len ≤ length room.items },
-    ghost most: { length room.items ≤ 65536 },
+    ghost most: { length room.items ≤ ROOM },
 }
 
 impl<K: Sink> BufferedSink<K> {

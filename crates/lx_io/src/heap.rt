@@ -8,8 +8,8 @@ use std::alloc::{AllocError, Global};
 /// A place from which memory comes.
 ///
 /// A heap has a meaning for contracts: how many of its calls were refused (`refusals`). The count never falls, and a call that is Ok
-/// leaves it as it was. A call is refused only where the count rose in it, and only where memory was wanted. So a caller's clause can
-/// say that it wants memory only where the heap itself refused some. A count that stands at 18,446,744,073,709,551,615 is taken as one
+/// leaves it as it was. A call is refused only where the count rose in it, and only where it asked for memory. So a caller's clause can
+/// say that it is out of memory only where the heap itself refused some. A count that stands at 18,446,744,073,709,551,615 is taken as one
 /// that rose.
 ///
 /// Whoever grows a vector asks its heap for room first: what is put into that room then can't fail.

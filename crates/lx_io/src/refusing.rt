@@ -8,7 +8,7 @@ use crate::Heap;
 use std::alloc::{AllocError, Global};
 use std::marker::Model;
 
-/// A heap for tests, of whose calls that want memory some are refused. Contracts see the numbers of these, how many calls wanted memory,
+/// A heap for tests, of whose calls for memory some are refused. Contracts see the numbers of these, how many calls for memory there were,
 /// and how many were refused.
 #[derive(Drop)]
 pub struct TestHeap {
@@ -27,7 +27,7 @@ impl Model for TestHeap {
 }
 
 impl TestHeap {
-    /// A heap over the allocator. The calls that want memory and whose numbers, from 0, stand in `fails` are refused.
+    /// A heap over the allocator. The calls for memory whose numbers, from 0, stand in `fails` are refused.
     pub fn new(alloc: Global, fails: Vec<u64>) -> TestHeap
         ensures { result ≡ record { fails = fails.items; calls = 0; refusals = 0 } }
     {
@@ -39,7 +39,7 @@ impl TestHeap {
         }
     }
 
-    /// How many calls wanted memory.
+    /// How many calls for memory there were.
     pub fn calls(&self) -> u64
         ensures { result ≡ self.now.calls }
     {
@@ -54,7 +54,7 @@ impl TestHeap {
         self.refusals
     }
 
-    /// A call wants memory: it is counted, and refused where its number stands among those that are.
+    /// A call for memory: it is counted, and refused where its number stands among those that are.
     fn want(&mut self) -> Result<(), AllocError>
         ensures fails { IsErr result ↔ IsTrue (is_failing self.old.fails self.old.calls) }
         ensures after { self.new ≡ after_want self.old result }

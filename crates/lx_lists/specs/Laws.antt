@@ -72,8 +72,8 @@ abbrev pub accepted : List Done → List Call
 accepted [] = []
 accepted (d ∷ ds) = if_accepted d.answer d.call ++ accepted ds
 
--- From the opening on, after every list of calls, what is kept stands for the replay of those that were accepted; where none was refused by
--- lack of memory, for the replay of all of them. The slots are the frames of both desks of that replay.
+-- From the opening on, after every list of calls, what is kept stands for the replay of those that were accepted; where none was
+-- refused as out of memory, for the replay of all of them. The slots are the frames of both desks of that replay.
 pub record LawOfTwoReplays : Type 0 where
   pub accepts : (show : Show) (opened : TwoKept) (done : List Done) → TwoStand (opened_two show) opened → AreDone opened done
       → TwoStand (replay_two show (accepted done)) (kept_after opened done)

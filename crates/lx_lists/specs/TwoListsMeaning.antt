@@ -38,7 +38,7 @@ pub record TwoWantMemory (takes : Bool) (step : Result TwoDesks Refusal) (refusa
   pub memory : refusal ≡ Memory
   pub accepted : IsOk step
 
--- As `Steps`, but that lack of memory may refuse a step that takes some.
+-- As `Steps`, but that out of memory may refuse a step that takes some.
 pub record TakesStep {A : Type 0} (takes : Bool) (step : Result TwoDesks Refusal) (answer : Result A Refusal) (t : TwoKept) : Type 0 where
   pub ok : OnOk answer (IsOkAnd step (λ next. TwoStand next t))
   pub err : IfErr answer (λ refusal. (step ≡ Err refusal) ⊎ TwoWantMemory takes step refusal)

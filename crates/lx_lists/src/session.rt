@@ -53,7 +53,7 @@ pub fn two_session<S: Source, K: Sink>(
     two_session_in(desk, &mut heap, lines, sink)
 }
 
-/// The same, by a heap: where it refused nothing in this call, no edit was refused for want of memory.
+/// The same, by a heap: where it refused nothing in this call, no edit was refused as out of memory.
 pub fn two_session_in<H: Heap, S: Source, K: Sink>(
     desk: &mut TwoLists,
     heap: &mut H,

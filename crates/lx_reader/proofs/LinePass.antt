@@ -225,7 +225,7 @@ module _ {S : Type 0} {told : ToldBySource S} {old l : Lines S} {r : Reader} (pa
     passage_fault faults.ReadFault not = next_cut not
     passage_fault faults.Memory turn = tt
 
--- lack of memory is no failed read
+-- out of memory is no failed read
 pub loaded_read : {P : Type 0} (form : Form) (q : Reader) (result : Result Loaded ShowFault) → IsLoaded form q result
     → result ≡ Err faults.ReadFault → P
 loaded_read form q result is read = let memory = subst (IsLoaded form q) read is in cc

@@ -54,7 +54,7 @@ pub record IsStep (old new : Reader) (i : ℕ) (entry : Entry) : Type 0 where
   pub state : state_of new ≡ state_after i entry (state_of old)
   pub ended : new.ended ≡ is_end entry
 
--- Where the line says something, the reader goes on. A fault is the definition's; lack of memory is free.
+-- Where the line says something, the reader goes on. A fault is the definition's; out of memory is free.
 abbrev pub Outcome : Reader → Reader → ℕ → Result (Unit {0}) ShowFault → Result Entry TextFault → Type 0
 Outcome old new i (Ok done) entry = IsOkAnd entry (IsStep old new i)
 Outcome old new i (Err fault) entry = IsFaultOf fault entry

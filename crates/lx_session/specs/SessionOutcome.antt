@@ -15,7 +15,7 @@ KeepsLimit before bytes (Ok tally) = before + length (bytes_wanted bytes) ≤ IN
 KeepsLimit before bytes (Err InputTooLong) = INPUT_BYTES < before + length (bytes_wanted bytes)
 KeepsLimit before bytes (Err other) = Unit {0}
 
--- the count that a fault stands for: failed reads, failed writes, or wants of memory of the sink
+-- the count that a fault stands for: failed reads, failed writes, or times that the sink was out of memory
 abbrev pub HasRisen : SessionFault → (reads reads' faults faults' wants wants' : ℕ) → Type 0
 HasRisen ReadFault reads reads' faults faults' wants wants' = Rose reads reads'
 HasRisen WriteFault reads reads' faults faults' wants wants' = Rose faults faults'

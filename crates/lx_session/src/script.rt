@@ -45,7 +45,7 @@ pub fn session<S: Source, K: Sink>(
     session_in(&mut heap, console, lines, sink)
 }
 
-/// As `session`, by a heap: where it refused nothing in this call, no command failed for want of memory.
+/// As `session`, by a heap: where it refused nothing in this call, no command failed as out of memory.
 pub fn session_in<H: Heap, S: Source, K: Sink>(
     heap: &mut H,
     console: &mut Console,
@@ -68,7 +68,7 @@ pub fn session_in<H: Heap, S: Source, K: Sink>(
 }
 
 /// As `session_in`, with a listener: a command that it doesn't admit is refused with `Memory`, and it hears of each command that is
-/// accepted, in order. Where the heap refused nothing in this call and every command was admitted, none failed for want of memory.
+/// accepted, in order. Where the heap refused nothing in this call and every command was admitted, none failed as out of memory.
 pub fn session_with_in<L: Listener, H: Heap, S: Source, K: Sink>(
     listener: &mut L,
     heap: &mut H,

@@ -113,8 +113,7 @@ pub record IsAcceptedEdit (d : Desk) (meaning : Option Line) : Type 0 where
   pub takes_some : may_lack_memory command ≡ true
   pub accepted : IsOk (step d command)
 
--- An attempt may fail at an edit that may take memory and that the desk accepts; and, where not all commands are admitted, since there is no
--- memory to hand one on, at any line.
+-- An attempt may fail at an edit that may take memory and that the desk accepts; and, where not all commands are admitted, at any line.
 abbrev pub MayFailAt : Bool → Desk → Option Line → Type 0
 MayFailAt true d meaning = IsAcceptedEdit d meaning
 MayFailAt false d meaning = Unit {0}

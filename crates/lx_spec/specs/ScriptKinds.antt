@@ -11,7 +11,7 @@ use Rattle.lx_spec.specs.Undo.{opened_with}
 use Rattle.lx_spec.specs.UndoSession.{undo_answering}
 use Rattle.lx_spec.specs.TwoLists.{opened_two, two_answering}
 
--- live, an attempt may fail at any line, where there is no memory to publish its command
+-- live, an attempt may fail at any line, where so many commands were accepted that no more are admitted
 abbrev pub answering_of : ScriptKind → Answering (List ℕ)
 answering_of Render = desk_answering true
 answering_of (Live universes) = desk_answering false

@@ -1,4 +1,4 @@
--- Which commands may want memory: edits whose plan holds a copy of what it changes.
+-- Which commands may take memory: edits whose plan holds a copy of what it changes.
 use Rattle.std.specs.Prelude.{Bool, true, false}
 use Rattle.lx_spec.specs.declared.Edit.{Edit}
 use Rattle.lx_spec.specs.declared.Edit.TheVariants.{MakeCue, Patch, Unpatch}

@@ -43,7 +43,7 @@ pub record UndoWantsMemory (takes : Bool) (step : Result UndoState Refusal) (ref
   pub memory : refusal ≡ Memory
   pub accepted : IsOk step
 
--- As `UndoSteps`, but that lack of memory may refuse a step that takes some.
+-- As `UndoSteps`, but that out of memory may refuse a step that takes some.
 pub record TakesUndoStep {A : Type 0} (takes : Bool) (step : Result UndoState Refusal) (answer : Result A Refusal) (u : UndoKept) : Type 0 where
   pub ok : OnOk answer (IsOkAnd step (λ next. UndoStands next u))
   pub err : IfErr answer (λ refusal. (step ≡ Err refusal) ⊎ UndoWantsMemory takes step refusal)

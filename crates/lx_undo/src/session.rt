@@ -60,7 +60,7 @@ pub fn undo_session<S: Source, K: Sink>(
     undo_session_in(desk, &mut heap, lines, sink)
 }
 
-/// The same, by a heap: where it refused nothing in this call, no edit and no record was refused for want of memory.
+/// The same, by a heap: where it refused nothing in this call, no edit and no record was refused as out of memory.
 pub fn undo_session_in<H: Heap, S: Source, K: Sink>(
     desk: &mut UndoDesk,
     heap: &mut H,

@@ -26,8 +26,8 @@ impl Before for Brand {
 }
 
 /// Listens to the session of a live run. It keeps the pace, admits each command that can still be counted, publishes what
-/// was accepted with the console's frames, and tells the workers. Commands that a publish leaves for lack of memory wait for
-/// a later one. The writer's heap is its own while it listens.
+/// was accepted with the console's frames, and tells the workers. Commands that a publish leaves as out of memory wait
+/// for a later one. The writer's heap is its own while it listens.
 pub struct Publisher<'r, 't, 'p, R: Wait, G: Origin, W: Window, C: Pace, B: Before> {
     pub rt: &'r R,
     pub gate: Gate<G, W>,

@@ -32,7 +32,7 @@ pub struct LiveOutcome {
     pub session: Result<Tally, SessionFault>,
     /// The fault of the outlet of universe u, at place u - 1, where it had one.
     pub outlets: [Option<SinkFault>; OUTLETS],
-    /// How many accepted commands, the last ones, weren't published, for lack of memory.
+    /// How many accepted commands, the last ones, weren't published, as the writer was out of memory.
     pub unsent: u64,
 }
 
@@ -90,7 +90,7 @@ pub fn play<
 }
 
 /// As `play`, by a heap for the session and what the run keeps, and one for the gate's writer. `AllocError` comes only where one of the two
-/// refused. Where the heap refused nothing in this call, no command failed for want of memory as long as each was admitted; and where the
+/// refused. Where the heap refused nothing in this call, no command failed as out of memory as long as each was admitted; and where the
 /// writer's heap refused nothing, all accepted commands were published.
 pub fn play_in<
     R: Threads + Wait + Sync,
