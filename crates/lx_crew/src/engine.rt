@@ -6,6 +6,7 @@ ghost use Rattle.lx_session.specs.LineReply.{TallyHasRoom, HasOneMore, counts_in
 ghost use Rattle.lx_crew.specs.Entries.{is_last};
 ghost use Rattle.lx_crew.specs.Rule.{engine_view};
 ghost use Rattle.lx_crew.specs.EngineAnswers.{HasServedEntries, Marked, OutputCause, NextEntry};
+ghost use Rattle.lx_base.specs.declared.TheConstants.{OPERATORS};
 
 use crate::answering::{answer_entry, flush};
 use crate::entry::{Message, Sent};
@@ -43,8 +44,9 @@ impl<H: Heap, K: Sink> Work for CrewEngine<'_, '_, '_, '_, '_, '_, H, K> {
     ghost use Rattle.crossbeam_queue.specs.Passes.{view, IsPassOf, IsSamePass};
     ghost use Rattle.lx_crew.specs.Rule.{engine_view};
     ghost use Rattle.lx_crew.specs.EngineAnswers.{HasServedEntries};
+    ghost use Rattle.lx_base.specs.declared.TheConstants.{OPERATORS};
 
-    ghost ready = { λ x. IsPassOf x.queue.now x.pass.now × ((view x.pass.now ≡ engine_view x.operators [] []) × (x.operators ≤ 4)) };
+    ghost ready = { λ x. IsPassOf x.queue.now x.pass.now × ((view x.pass.now ≡ engine_view x.operators [] []) × (x.operators ≤ OPERATORS)) };
 
     ghost done = { λ x y. (y.pass.ghost_name ≡ x.pass.ghost_name)
         × ((y.heap.ghost_name ≡ x.heap.ghost_name)
@@ -85,7 +87,7 @@ fn serve<R: Wait, H: Heap, K: Sink>(
 ) -> Option<SinkFault>
     requires queue { IsPassOf queue.now pass.old }
     requires view { view pass.old ≡ engine_view operators [] [] }
-    requires few { operators ≤ 4 }
+    requires few { operators ≤ OPERATORS }
     requires none { counts_in tally.old ≡ record { ok = 0; refused = 0; bad = 0 } }
     ensures queue { IsSamePass pass.old pass.new }
     ensures served { HasServedEntries (H.refusals heap.old) (H.refusals heap.new) K.Sink operators (view pass.new) sink.old sink.new
@@ -155,7 +157,7 @@ fn take_one<H: Heap, K: Sink>(
 
 /// Whether each of the first places is set.
 fn all_of(ended: &[bool; PLACES], count: usize) -> bool
-    requires { count ≤ 4 }
+    requires { count ≤ OPERATORS }
     ensures { result ≡ true → (k : ℕ) → k < count → slice_get ended.now k ≡ Some true }
 {
     for place in 0..count {

@@ -120,7 +120,7 @@ fn perform<'q, 'e, R: Threads + Wait + Sync, H: Heap + Send, S: Source + Send, K
 ) -> (Tally, Option<SinkFault>)
     requires queue { IsPassOf queue.now pass.old }
     requires view { view pass.old ≡ engine_view (length works.old) [] [] }
-    requires few { length works.old ≤ 4 }
+    requires few { length works.old ≤ OPERATORS }
     requires ready { All HasSentNothing works.old }
     ensures queue { IsSamePass pass.old pass.new }
     ensures served { HasServedEntries (H.refusals heap.old) (H.refusals heap.new) K.Sink (length works.old) (view pass.new)
@@ -152,7 +152,7 @@ fn hire<'q, 'e, S: Source>(
 )
     requires queue { IsPassOf queue.now pass.old }
     requires view { view pass.old ≡ engine_view 0 [] [] }
-    requires few { length operators.old ≤ 4 }
+    requires few { length operators.old ≤ OPERATORS }
     requires all { EachAt (λ k place. IsSome place) operators.old }
     requires none { works.old.items ≡ [] }
     requires len { vec_len works.old ≡ 0 }
@@ -191,7 +191,7 @@ fn release<S: Source + Drop>(
     requires pushes { (view pass.old).pushes ≡ false }
     requires works { EachAt (Works (IsPassOf queue.now)) works.items }
     requires count { length works.items ≡ length operators.old }
-    requires few { length operators.old ≤ 4 }
+    requires few { length operators.old ≤ OPERATORS }
     ensures queue { IsSamePass pass.old pass.new }
     ensures kept { view pass.new ≡ record (view pass.old) { kept = map owned works.entry.items ++ (view pass.old).kept } }
     ensures same { length operators.new ≡ length operators.old }

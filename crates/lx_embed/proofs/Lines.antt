@@ -12,7 +12,7 @@ use Rattle.lx_spec.specs.Script.{line_of}
 use Rattle.lx_session.specs.declared.tally.Tally.{Tally}
 use Rattle.lx_session.proofs.Stood.{spares}
 use Rattle.lx_session.specs.LineAnswer.{SparedAnswer}
-use Rattle.lx_session.specs.OneAnswer.{OneAnswer}
+use Rattle.lx_session.specs.OneAnswer.{OneAnswer, GoesOnUnless}
 use Rattle.lx_session.specs.Spared.{spared}
 use Rattle.lx_embed.specs.declared.reply.ReplyText.{ReplyText}
 use Rattle.lx_embed.specs.Answered.{AnswersLine}
@@ -34,7 +34,7 @@ told_by_reply = record { holds = λ s. Some (reply_bytes s); back = λ _. []; fa
 pub line_answered : (by : Answering (List ℕ)) (Stands : by.State → Type 0) (state : by.State) (line : List ℕ)
     (sink sink' : ReplyText) (result : Result Bool SinkFault) (tally : Tally) → reply_bytes sink ≡ []
     → OneAnswer by told_by_reply sink sink' result (begin_at state) line Stands tally
-    → IfOk result (λ more. more ≡ not (ends_script line)) → AnswersLine by Stands state line result (reply_bytes sink')
+    → GoesOnUnless (ends_script line) result → AnswersLine by Stands state line result (reply_bytes sink')
 line_answered by Stands state line sink sink' result tally empty told more =
     let whole : reply_bytes sink ++ told.reply ≡ told.next.text = ap (λ (xs : List ℕ). xs ++ told.reply) empty ∙ sym told.text in
     record {
@@ -75,9 +75,3 @@ pub wanted : {T : Type 0} (sink sink' : ReplyText) (result : Result T SinkFault)
 wanted sink sink' (Ok x) cause = tt
 wanted sink sink' (Err faults.Failed) cause = let rose = cause.failed refl in absurd (omega (arith, rose))
 wanted sink sink' (Err faults.Memory) cause = cause.memory refl
-
--- whether a line that is told of by any text that is it ends the script
-pub more_of : (line : List ℕ) (result : Result Bool SinkFault)
-    → IfOk result (λ more. (text : List ℕ) → line ≡ text → more ≡ not (ends_script text)) → IfOk result (λ more. more ≡ not (ends_script line))
-more_of line (Ok more) told = told line refl
-more_of line (Err fault) told = tt

@@ -2,6 +2,7 @@
 ghost use Rattle.std.specs.Prelude.{[]};
 ghost use Rattle.lx_spec.specs.Show.{Show};
 ghost use Rattle.logbook.specs.Pages.{Book};
+ghost use Rattle.lx_base.specs.declared.TheConstants.{DEFAULT_CHANNELS};
 
 use std::marker::Brand;
 
@@ -13,7 +14,7 @@ pub trait Origin {
 }
 
 impl Origin for Brand {
-    ghost show = { record { channels = 512; cues = []; groups = []; subs = []; patch = [] } };
+    ghost show = { record { channels = DEFAULT_CHANNELS; cues = []; groups = []; subs = []; patch = [] } };
 
     ghost book = { record { number = 0; log_name = 0; cells_name = 0 } };
 }

@@ -8,11 +8,12 @@ ghost use Rattle.lx_gate.specs.Notes.{IsNoteOf, commands_of_note};
 ghost use Rattle.lx_spec.specs.Show.{Show};
 ghost use Rattle.logbook.specs.Pages.{Book};
 ghost use Rattle.lx_gate.specs.Readings.{IsReading, Told, HasMissed, HasLearnt};
-ghost use Rattle.lx_base.specs.declared.TheConstants.{UNIVERSES};
+ghost use Rattle.lx_base.specs.declared.TheConstants.{UNIVERSES, UNIVERSE_SLOTS};
 ghost use Rattle.lx_spec.specs.declared.Command.{Command};
 
 use crate::{GateRule, Note, Origin, Prefix, Shows, Stamp, Version};
 use left_right::reader::Reader;
+use lx_base::UNIVERSE_SLOTS;
 
 /// What a tap reads from: one gate, whose versions it gives.
 pub trait Port {
@@ -26,7 +27,7 @@ pub trait Port {
     ghost told: { Self → Told };
 
     /// Gives the slots of a universe and the stamp, wholly of one version. None is a miss: `out` is as before.
-    fn read(&mut self, universe: u8, out: &mut [u8; 512]) -> Option<Stamp>
+    fn read(&mut self, universe: u8, out: &mut [u8; UNIVERSE_SLOTS]) -> Option<Stamp>
         requires low { 1 ≤ universe }
         requires high { universe ≤ UNIVERSES }
         ensures some { IfSome result (λ stamp. IsReading show universe (told self.old) (told self.new) out.new stamp) }
@@ -78,7 +79,7 @@ impl<G: Origin> Port for LrPort<G, GateReader<G>> {
 
     ghost told = { λ p. record { seen = p.seen; learnt = p.learnt; reads = p.reads; misses = p.misses } };
 
-    fn read(&mut self, universe: u8, out: &mut [u8; 512]) -> Option<Stamp> {
+    fn read(&mut self, universe: u8, out: &mut [u8; UNIVERSE_SLOTS]) -> Option<Stamp> {
         self.seen.chain(&self.learnt);
         let Some(reader) = self.reader.take() else {
             self.misses = self.misses.saturating_add(1);
@@ -122,7 +123,7 @@ fn copy_later<G: Origin>(
     seen: &Prefix<G>,
     learnt: &Prefix<G>,
     universe: u8,
-    out: &mut [u8; 512],
+    out: &mut [u8; UNIVERSE_SLOTS],
 ) -> Option<Stamp>
     requires low { 1 ≤ universe }
     requires high { universe ≤ UNIVERSES }
@@ -139,14 +140,14 @@ fn copy_later<G: Origin>(
 }
 
 /// Copies the slots of a universe.
-fn copy_slots<G: Origin>(version: &Version<G>, universe: u8, out: &mut [u8; 512]) -> Stamp
+fn copy_slots<G: Origin>(version: &Version<G>, universe: u8, out: &mut [u8; UNIVERSE_SLOTS]) -> Stamp
     requires low { 1 ≤ universe }
     requires high { universe ≤ UNIVERSES }
-    ensures slots { out.new ≡ slice_range version.now.slots (512 * (universe - 1)) (512 * universe) }
+    ensures slots { out.new ≡ slice_range version.now.slots (UNIVERSE_SLOTS * (universe - 1)) (UNIVERSE_SLOTS * universe) }
     ensures stamp { (result.count ≡ version.now.count) × (result.moment ≡ version.now.moment) }
 {
-    let end = 512 * universe as usize;
-    out.copy_from_slice(&version.slots[end - 512..end]);
+    let end = UNIVERSE_SLOTS * universe as usize;
+    out.copy_from_slice(&version.slots[end - UNIVERSE_SLOTS..end]);
     Stamp {
         count: version.count,
         moment: version.moment,

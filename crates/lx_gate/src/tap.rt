@@ -5,9 +5,10 @@ ghost use Rattle.lx_gate.specs.CommandLists.{IsChained};
 ghost use Rattle.lx_gate.specs.Frames.{IsFrame};
 ghost use Rattle.lx_gate.specs.Notes.{IsNoteOf, commands_of_note, KeepsLater};
 ghost use Rattle.lx_gate.specs.Readings.{Told, newest, HasReadOn, HasMissed, HasLearnt};
-ghost use Rattle.lx_base.specs.declared.TheConstants.{UNIVERSES};
+ghost use Rattle.lx_base.specs.declared.TheConstants.{UNIVERSES, UNIVERSE_SLOTS};
 
 use crate::{Note, Port, Stamp};
+use lx_base::UNIVERSE_SLOTS;
 use std::marker::Model;
 use std::sync::Wait;
 
@@ -16,7 +17,7 @@ use std::sync::Wait;
 pub struct Tap<P: Port> {
     port: P,
     universe: u8,
-    slots: [u8; 512],
+    slots: [u8; UNIVERSE_SLOTS],
     stamp: Stamp,
 }
 
@@ -40,13 +41,13 @@ impl<P: Port> Tap<P> {
         requires low { 1 ≤ universe }
         requires high { universe ≤ UNIVERSES }
         requires told { P.told port ≡ record { seen = []; learnt = []; reads = 0; misses = 0 } }
-        requires opening { IsFrame P.show [] universe (replicate 512 0) (record { count = 0; moment = 0 }) }
+        requires opening { IsFrame P.show [] universe (replicate UNIVERSE_SLOTS 0) (record { count = 0; moment = 0 }) }
         ensures { result ≡ record { universe = universe; told = P.told port } }
     {
         Tap {
             port,
             universe,
-            slots: [0; 512],
+            slots: [0; UNIVERSE_SLOTS],
             stamp: Stamp {
                 count: 0,
                 moment: 0,
@@ -76,7 +77,7 @@ impl<P: Port> Tap<P> {
 
     /// Gives the slots of the universe after a list of published commands, and how many these are. It waits for nobody. Where it
     /// has no reading, it gives what it kept.
-    pub fn take(&mut self, out: &mut [u8; 512]) -> Stamp
+    pub fn take(&mut self, out: &mut [u8; UNIVERSE_SLOTS]) -> Stamp
         ensures version { IsFrame P.show (newest self.new.told) self.old.universe out.new result }
         ensures seen { IsPrefix self.old.told.seen (newest self.new.told) }
         ensures heard { IsPrefix self.old.told.learnt (newest self.new.told) }
@@ -110,7 +111,7 @@ impl<P: Port> Tap<P> {
     }
 
     /// Gives the slots of the universe in the version that it keeps, and which it is. It asks nobody.
-    pub fn kept(&self, out: &mut [u8; 512]) -> Stamp
+    pub fn kept(&self, out: &mut [u8; UNIVERSE_SLOTS]) -> Stamp
         ensures { IsFrame P.show (newest self.now.told) self.now.universe out.new result }
     {
         *out = self.slots;
@@ -131,14 +132,14 @@ fn wait_while_newer<R: Wait>(rt: &R, count: u64, last: u64)
 }
 
 /// The slots and the stamp of a note, where its list is longer than that of the slots and the stamp that are kept.
-fn keep_later(note: &Note, universe: u8, stamp: Stamp, slots: &mut [u8; 512]) -> Stamp
+fn keep_later(note: &Note, universe: u8, stamp: Stamp, slots: &mut [u8; UNIVERSE_SLOTS]) -> Stamp
     requires low { 1 ≤ universe }
     requires high { universe ≤ UNIVERSES }
     ensures { KeepsLater note.now universe slots.old stamp slots.new result }
 {
     if stamp.count < note.count {
-        let end = 512 * universe as usize;
-        slots.copy_from_slice(&note.slots[end - 512..end]);
+        let end = UNIVERSE_SLOTS * universe as usize;
+        slots.copy_from_slice(&note.slots[end - UNIVERSE_SLOTS..end]);
         return Stamp {
             count: note.count,
             moment: note.moment,

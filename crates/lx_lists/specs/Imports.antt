@@ -3,6 +3,7 @@ pub use Rattle.lx_spec.specs.DeskSession.{begun, command_of}
 pub use Rattle.lx_spec.specs.TwoLists.{TwoDesks, commands_second, second_show, frame_of_two, first_show}
 pub use Rattle.lx_spec.specs.ValidEdit.{ValidCommand, ValidLine}
 pub use Rattle.lx_session.specs.Attempts.{Attempted, heard_of}
+pub use Rattle.lx_session.specs.OneAnswer.{GoesOnUnless}
 pub use Rattle.lx_session.specs.LineProgress.{LineProgress}
 pub use Rattle.lx_session.specs.Spared.{HasStood}
 pub use Rattle.lx_session.specs.LineState.{next_of, unattempted}

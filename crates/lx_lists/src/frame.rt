@@ -1,7 +1,7 @@
 //! The frame of both lists as a line.
 
-ghost use Rattle.std.specs.Prelude.{◌≡◌, ◌≤◌, [], true, IfOk};
-ghost use Rattle.lx_lists.specs.Imports.{Puts, HasSinkCause, frame_text, TwoDesks, frame_of_two, TwoStand};
+ghost use Rattle.std.specs.Prelude.{◌≤◌, [], false};
+ghost use Rattle.lx_lists.specs.Imports.{Puts, HasSinkCause, GoesOnUnless, frame_text, TwoDesks, frame_of_two, TwoStand};
 ghost use Rattle.lx_base.specs.declared.TheConstants.{UNIVERSES};
 
 use crate::desk::TwoLists;
@@ -20,7 +20,7 @@ pub(crate) fn put_universe<K: Sink>(
     ensures text { (s : TwoDesks) → TwoStand s desk.now
         → Puts K.Sink sink.old sink.new result
         (frame_text [] s.first.playback.moment universe (frame_of_two s universe)) }
-    ensures more { IfOk result (λ more. more ≡ true) }
+    ensures more { GoesOnUnless false result }
     ensures cause { HasSinkCause K.Sink sink.old sink.new result }
 {
     let slots = slots_of(universe, desk.frames());

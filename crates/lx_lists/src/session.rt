@@ -1,12 +1,12 @@
 //! Sessions of two lists: a line whose first token is 2 is for the second one.
 
-ghost use Rattle.std.specs.Prelude.{◌≡◌, ◌≤◌, List, ℕ, Bool, IfOk, IfSome, None, not, true, false, option_copied};
+ghost use Rattle.std.specs.Prelude.{◌≡◌, ◌≤◌, List, ℕ, Bool, IfSome, None, true, false, option_copied};
 ghost use Rattle.lx_io.specs.Puts.{HasSinkCause};
 ghost use Rattle.lx_lex.specs.Unread.{CanAdvance, SameSource, bytes_taken, source_left, unread};
 ghost use Rattle.lx_spec.specs.Session.{Session, ends_script};
 ghost use Rattle.lx_spec.specs.TwoLists.{TwoDesks, two_answering, is_for_second};
 ghost use Rattle.lx_session.specs.LineReply.{TallyHasRoom, HasOneMore, counts_in};
-ghost use Rattle.lx_session.specs.OneAnswer.{IsLine, OneAnswer};
+ghost use Rattle.lx_session.specs.OneAnswer.{IsLine, OneAnswer, GoesOnUnless};
 ghost use Rattle.lx_session.specs.Spared.{HasStood, spared};
 ghost use Rattle.lx_session.specs.ScriptAnswer.{ScriptAnswered};
 ghost use Rattle.lx_session.specs.SessionOutcome.{HasSessionCause, KeepsLimit};
@@ -139,7 +139,7 @@ fn answer_second<H: Heap, K: Sink>(
         → IsRestFor text rest.now
         → OneAnswer (spared ample two_answering) K.Sink sink.old sink.new result s text (λ state. TwoStand state desk.new)
         tally.new }
-    ensures more { IfOk result (λ more. more ≡ true) }
+    ensures more { GoesOnUnless false result }
     ensures cause { HasSinkCause K.Sink sink.old sink.new result }
     ensures counted { HasOneMore tally.old tally.new }
     ensures later { H.refusals heap.old ≤ H.refusals heap.new }
@@ -164,7 +164,7 @@ fn answer_first<H: Heap, K: Sink>(
         → IsLine (option_copied line.entry) text → is_for_second text ≡ false
         → OneAnswer (spared ample two_answering) K.Sink sink.old sink.new result s text (λ state. TwoStand state desk.new)
         tally.new }
-    ensures quit { IfOk result (λ more. (text : List ℕ) → IsLine (option_copied line.entry) text → more ≡ not (ends_script text)) }
+    ensures quit { (text : List ℕ) → IsLine (option_copied line.entry) text → GoesOnUnless (ends_script text) result }
     ensures cause { HasSinkCause K.Sink sink.old sink.new result }
     ensures counted { HasOneMore tally.old tally.new }
     ensures later { H.refusals heap.old ≤ H.refusals heap.new }

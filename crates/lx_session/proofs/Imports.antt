@@ -25,7 +25,7 @@ pub use Rattle.lx_session.specs.LineProgress.{CommandHasFailed, HasPassed, LineP
 pub use Rattle.lx_session.specs.LineReply.{counted, counts_after, counts_in, IsUpTo, reply_for, reply_to, stateless}
 pub use Rattle.lx_session.specs.LineState.{frame_of, LineState, meaning_of, next_of, unattempted}
 pub use Rattle.lx_session.specs.Listening.{Beginning, HasDone, HasHeard}
-pub use Rattle.lx_session.specs.OneAnswer.{ExtendsText, GoesOnBy, IsLawful, IsLine, OneAnswer}
+pub use Rattle.lx_session.specs.OneAnswer.{ExtendsText, GoesOnBy, GoesOnUnless, IsLawful, IsLine, OneAnswer}
 pub use Rattle.lx_session.specs.Spared.{HasStood, IsAmple, MayFailUnless, MayTake, spared}
 pub use Rattle.lx_session.specs.ScriptAnswer.{AnsweredPrefix, AnsweredTaken, AnsweredWhole, ScriptAnswered}
 pub use Rattle.lx_session.specs.SessionOutcome.{KeepsLimit}

@@ -2,11 +2,10 @@
 use Rattle.lx_session.proofs.Imports.{◌≡◌, inl, inr, ℕ, Bool, true, false, not, Option, Some, None, Result, Ok, Err, IfOk, IsErr, IsErrAnd, IfSome}
 use Rattle.lx_session.proofs.Imports.{List, [], ◌∷◌, ◌++◌, length, refl, sym, ap, ◌∙◌, subst, arith, append-nil, length-append, Appends, IsAtEnd, Keeps}
 use Rattle.lx_session.proofs.Imports.{Appends-trans, Keeps-trans, SinkFault, Puts, AppendsFront-is, Lines, HandedOut, unread, without_cr, Session, Answering}
-use Rattle.lx_session.proofs.Imports.{ends_script, Tally, Known, IsLine, IsLawful, OneAnswer, DoneLine, QuitLine, Untouched, SinkStop}
+use Rattle.lx_session.proofs.Imports.{ends_script, Tally, Known, GoesOnUnless, IsLine, IsLawful, OneAnswer, DoneLine, QuitLine, Untouched, SinkStop}
 use Rattle.lx_session.proofs.Imports.{FromSession, LineOutcome, ToldBySink, ToldBySource, IfErr-at_err, IfOk-at_ok}
 use Rattle.std.proofs.Math.Bool.{not-not}
 use Rattle.std.proofs.Math.Seq.{take-nil}
-use Rattle.std.proofs.lemmas.Bool.{cases_Bool}
 use Rattle.std.proofs.lemmas.Result.{err_from_is_err_and}
 use Rattle.lx_io.specs.Causes.{Rose}
 use Rattle.lx_io.specs.Puts.{HasSinkCause}
@@ -50,7 +49,7 @@ pub record LineIsAnswered {S K Since : Type 0} (by : Answering (List ℕ)) (Stoo
   pub lawful : IsLawful by
   pub kept : Keeps (told.holds start) (told.holds sink)
   pub answered : FromSession Stood counted (λ since s. OneAnswer by told sink sink' result s (without_cr raw) (Stands since) tally)
-  pub ends : IfOk result (λ more. more ≡ not (ends_script (without_cr raw)))
+  pub ends : GoesOnUnless (ends_script (without_cr raw)) result
 
 -- the sink's fault is the session's
 sink_failed : {S Since : Type 0} (by : Answering (List ℕ)) (Stood Stands : Since → by.State → Type 0) (told : ToldBySource S) (old new : Lines S)
@@ -70,7 +69,7 @@ module _ {S K Since : Type 0} {by : Answering (List ℕ)} {Stood Stands : Since 
 
   -- whether the line ends the script, as its answer tells
   ends_as : (b : Bool) → result ≡ Ok b → ends_script line ≡ not b
-  ends_as b was = sym (ap not (IfOk-at_ok (λ more. more ≡ not (ends_script line)) was t.ends) ∙ not-not (ends_script line))
+  ends_as b was = sym (ap not (subst (GoesOnUnless (ends_script line)) was t.ends) ∙ not-not (ends_script line))
 
   abbrev goes_on : (since : Since) (s : Session by.State) (a : Answer since s) → ends_script line ≡ false → DoneLine by (Stands since) s line a.reply
   goes_on since s a more =
@@ -135,19 +134,16 @@ module _ {S K Since : Type 0} {by : Answering (List ℕ)} {Stood Stands : Since 
       → LineOutcome by Stood Stands source old new (told.holds start) (told.holds sink') counted tally (Err (fault_of fault))
   unwritten fault was = sink_failed by Stood Stands source old new (told.holds start) (told.holds sink') counted tally fault
       (λ since s stands counts.
-      let a = t.answered since s stands counts in elim (cases_Bool (ends_script line)) [
-        | inl quits ↦ inl ((quits_as since s a quits).1, inr (quit_line quits))
-        | inr more ↦ inr (record {
-          raw = t.raw;
-          handed = t.handed;
-          part = record {
-            reply = a.reply;
-            done = goes_on since s a more;
-            front = front_then (told.holds start) (told.holds sink) (told.holds sink') [] a.reply
-                (kept_appends (told.holds start) (told.holds sink) t.kept) (IfErr-at_err _ was a.puts.part);
-          };
-        })
-      ])
+      let a = t.answered since s stands counts in inr (record {
+        raw = t.raw;
+        handed = t.handed;
+        part = record {
+          reply = a.reply;
+          done = goes_on since s a (subst (GoesOnUnless (ends_script line)) was t.ends);
+          front = front_then (told.holds start) (told.holds sink) (told.holds sink') [] a.reply
+              (kept_appends (told.holds start) (told.holds sink) t.kept) (IfErr-at_err _ was a.puts.part);
+        };
+      }))
 
 none_left : (a b : Option (List ℕ)) → IsAtEnd a → IsAtEnd b → IfSome a (λ xs. IfSome b (λ ys. xs ≡ ys))
 none_left None b p q = tt

@@ -16,6 +16,7 @@ pub use Rattle.lx_session.specs.Spared.{HasStood, spared, MayTake, IsAmple}
 pub use Rattle.lx_session.specs.LineState.{next_of, frame_of, meaning_of}
 pub use Rattle.lx_session.specs.Attempts.{Attempted, ListenedAttempt, heard_of}
 pub use Rattle.lx_session.specs.LineAnswer.{SparedAnswer, FromDesk, LineAnswer}
+pub use Rattle.lx_session.specs.OneAnswer.{GoesOnUnless}
 pub use Rattle.lx_session.specs.LineProgress.{HasPassed, LineProgress}
 pub use Rattle.lx_session.specs.ScriptAnswer.{ScriptAnswered}
 pub use Rattle.lx_session.specs.Listening.{HasDone}

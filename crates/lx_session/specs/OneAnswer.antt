@@ -1,5 +1,5 @@
 -- One line of a session, done and answered.
-use Rattle.std.specs.Prelude.{◌≡◌, ℕ, ◌<◌, true, Option, Some, None, IfSome, Result, List, ◌++◌, length, OnOk}
+use Rattle.std.specs.Prelude.{◌≡◌, ℕ, ◌<◌, Bool, true, false, not, Option, Some, None, IfSome, Result, Ok, Err, List, ◌++◌, length, OnOk}
 use Rattle.lx_base.specs.declared.TheConstants.{LINE_BYTES}
 use Rattle.lx_io.specs.declared.sink.SinkFault.{SinkFault}
 use Rattle.lx_io.specs.Puts.{Puts}
@@ -12,6 +12,11 @@ use Rattle.lx_session.specs.LineReply.{counts_in}
 abbrev pub IsLine : Option (List ℕ) → List ℕ → Type 0
 IsLine (Some line) text = line ≡ text
 IsLine None text = LINE_BYTES < length text
+
+-- It answers whether the session goes on: it does but at the line that ends the script, at which there is no fault.
+abbrev pub GoesOnUnless : (ends : Bool) → Result Bool SinkFault → Type 0
+GoesOnUnless ends (Ok more) = more ≡ not ends
+GoesOnUnless ends (Err fault) = ends ≡ false
 
 -- a line adds to the text
 pub record ExtendsText {S : Type 0} (s next : Session S) : Type 0 where

@@ -1,10 +1,10 @@
 //! What answers the lines of a script.
 
-ghost use Rattle.std.specs.Prelude.{◌≡◌, ◌≤◌, List, ℕ, Bool, true, IfOk, not, option_copied};
+ghost use Rattle.std.specs.Prelude.{◌≡◌, ◌≤◌, List, ℕ, Bool, true, option_copied};
 ghost use Rattle.lx_io.specs.Puts.{HasSinkCause};
 ghost use Rattle.lx_spec.specs.Session.{Session, Answering, ends_script};
 ghost use Rattle.lx_session.specs.LineReply.{TallyHasRoom, HasOneMore, counts_in};
-ghost use Rattle.lx_session.specs.OneAnswer.{IsLine, IsLawful, OneAnswer};
+ghost use Rattle.lx_session.specs.OneAnswer.{IsLine, IsLawful, OneAnswer, GoesOnUnless};
 ghost use Rattle.lx_session.specs.Spared.{HasStood, spared};
 
 use crate::tally::Tally;
@@ -39,7 +39,7 @@ pub trait Answers {
             → OneAnswer (spared ample by) K.Sink sink.old sink.new result s text (λ state. stands state self.new)
             tally.new }
         ensures later { H.refusals heap.old ≤ H.refusals heap.new }
-        ensures quit { IfOk result (λ more. (text : List ℕ) → IsLine (option_copied line.entry) text → more ≡ not (ends_script text)) }
+        ensures quit { (text : List ℕ) → IsLine (option_copied line.entry) text → GoesOnUnless (ends_script text) result }
         ensures cause { HasSinkCause K.Sink sink.old sink.new result }
         ensures more { HasOneMore tally.old tally.new }
         ensures lawful { IsLawful by };

@@ -1,10 +1,10 @@
 //! What answers the lines of a script beside something that is lent to it.
 
-ghost use Rattle.std.specs.Prelude.{◌≡◌, ◌≤◌, List, ℕ, Bool, true, IfOk, not, option_copied};
+ghost use Rattle.std.specs.Prelude.{◌≡◌, ◌≤◌, List, ℕ, Bool, true, option_copied};
 ghost use Rattle.lx_io.specs.Puts.{HasSinkCause};
 ghost use Rattle.lx_spec.specs.Session.{Session, Answering, ends_script};
 ghost use Rattle.lx_session.specs.LineReply.{TallyHasRoom, HasOneMore, counts_in};
-ghost use Rattle.lx_session.specs.OneAnswer.{IsLine, IsLawful, OneAnswer};
+ghost use Rattle.lx_session.specs.OneAnswer.{IsLine, IsLawful, OneAnswer, GoesOnUnless};
 ghost use Rattle.lx_session.specs.Spared.{MayTake, spared};
 
 use crate::answers::Answers;
@@ -52,7 +52,7 @@ pub(crate) trait AnswersBeside<D> {
             tally.new }
         ensures all { admitted_all self.new ≡ true → admitted_all self.old ≡ true }
         ensures later { H.refusals heap.old ≤ H.refusals heap.new }
-        ensures quit { IfOk result (λ more. (text : List ℕ) → IsLine (option_copied line.entry) text → more ≡ not (ends_script text)) }
+        ensures quit { (text : List ℕ) → IsLine (option_copied line.entry) text → GoesOnUnless (ends_script text) result }
         ensures cause { HasSinkCause K.Sink sink.old sink.new result }
         ensures more { HasOneMore tally.old tally.new }
         ensures lawful { (all : Bool) → IsLawful (by all) };

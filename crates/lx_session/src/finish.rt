@@ -1,9 +1,9 @@
 //! The reply to a line.
 
-ghost use Rattle.std.specs.Prelude.{◌≡◌, ◌≤◌, [], OnOk, IfOk, None, Some, not, true};
+ghost use Rattle.std.specs.Prelude.{◌≡◌, ◌≤◌, [], OnOk, None, Some, false};
 ghost use Rattle.lx_session.specs.Imports.{Puts, HasSinkCause, Desk, frame_text, row_text, frame, show_text, reply_text, StandsFor};
 ghost use Rattle.lx_session.specs.Imports.{is_quit, next_of, frame_of, reply_to, reply_for, counts_after, counts_in, counted, TallyHasRoom};
-ghost use Rattle.lx_session.specs.Imports.{HasOneMore};
+ghost use Rattle.lx_session.specs.Imports.{HasOneMore, GoesOnUnless};
 ghost use Rattle.lx_base.specs.declared.TheConstants.{UNIVERSES};
 
 use crate::tally::Tally;
@@ -35,7 +35,7 @@ impl<'a> Turn<'a> {
             → Puts K.Sink sink.old sink.new result (reply_to d self.now.meaning self.now.refusal) }
         ensures counts { (d : Desk) → StandsFor d console.now
             → OnOk result (counts_in tally.new ≡ counts_after d (counts_in tally.old) self.now.meaning self.now.refusal) }
-        ensures quit { IfOk result (λ more. more ≡ not (is_quit self.now.meaning)) }
+        ensures quit { GoesOnUnless (is_quit self.now.meaning) result }
         ensures counted { HasOneMore tally.old tally.new }
     {
         match self.frame_universe() {
@@ -59,7 +59,7 @@ impl<'a> Turn<'a> {
             → Puts K.Sink sink.old sink.new result (reply_to d self.now.meaning self.now.refusal) }
         ensures counts { (d : Desk) → StandsFor d player.now
             → OnOk result (counts_in tally.new ≡ counts_after d (counts_in tally.old) self.now.meaning self.now.refusal) }
-        ensures quit { IfOk result (λ more. more ≡ not (is_quit self.now.meaning)) }
+        ensures quit { GoesOnUnless (is_quit self.now.meaning) result }
         ensures counted { HasOneMore tally.old tally.new }
     {
         reply_to_line(&self.line, self.refusal, player, sink, tally)
@@ -81,7 +81,7 @@ fn reply_to_line<K: Sink>(
         → Puts K.Sink sink.old sink.new result (reply_to d line.now refusal) }
     ensures counts { (d : Desk) → StandsFor d player.now
         → OnOk result (counts_in tally.new ≡ counts_after d (counts_in tally.old) line.now refusal) }
-    ensures quit { IfOk result (λ more. more ≡ not (is_quit line.now)) }
+    ensures quit { GoesOnUnless (is_quit line.now) result }
     ensures counted { HasOneMore tally.old tally.new }
 {
     match line {
@@ -117,7 +117,7 @@ pub(crate) fn give<K: Sink>(
     ensures text { Puts K.Sink sink.old sink.new result (reply_text reply) }
     ensures counts { counts_in tally.new ≡ counted reply (counts_in tally.old) }
     ensures counted { HasOneMore tally.old tally.new }
-    ensures more { IfOk result (λ more. more ≡ true) }
+    ensures more { GoesOnUnless false result }
 {
     match reply {
         Reply::Ok => tally.ok += 1,
@@ -142,7 +142,7 @@ fn put_sheet<K: Sink>(
         → Puts K.Sink sink.old sink.new result (reply_to d (Some (Line.SheetOf n)) refusal) }
     ensures counts { (d : Desk) → StandsFor d player.now
         → OnOk result (counts_in tally.new ≡ counts_after d (counts_in tally.old) (Some (Line.SheetOf n)) refusal) }
-    ensures more { IfOk result (λ more. more ≡ true) }
+    ensures more { GoesOnUnless false result }
     ensures counted { HasOneMore tally.old tally.new }
 {
     match player.tracked_row(n) {
@@ -154,7 +154,7 @@ fn put_sheet<K: Sink>(
 /// Appends a row line.
 fn give_row<K: Sink>(n: CueNo, row: &[Level], sink: &mut K) -> Result<bool, SinkFault>
     ensures text { Puts K.Sink sink.old sink.new result (row_text n row.now) }
-    ensures more { IfOk result (λ more. more ≡ true) }
+    ensures more { GoesOnUnless false result }
 {
     put_row(n, row, sink)?;
     Ok(true)
@@ -164,7 +164,7 @@ fn give_row<K: Sink>(n: CueNo, row: &[Level], sink: &mut K) -> Result<bool, Sink
 fn put_show<K: Sink>(player: &Player, sink: &mut K) -> Result<bool, SinkFault>
     ensures cause { HasSinkCause K.Sink sink.old sink.new result }
     ensures text { (d : Desk) → StandsFor d player.now → Puts K.Sink sink.old sink.new result (show_text d.show) }
-    ensures more { IfOk result (λ more. more ≡ true) }
+    ensures more { GoesOnUnless false result }
 {
     write_show(player.show(), sink)?;
     Ok(true)
@@ -181,7 +181,7 @@ pub(crate) fn put_universe<K: Sink>(
     ensures cause { HasSinkCause K.Sink sink.old sink.new result }
     ensures text { (d : Desk) → StandsFor d console.now
         → Puts K.Sink sink.old sink.new result (frame_text [] d.playback.moment universe (frame d universe)) }
-    ensures more { IfOk result (λ more. more ≡ true) }
+    ensures more { GoesOnUnless false result }
 {
     let slots = slots_of(universe, console.frames());
     put_frame(None, console.moment(), universe, slots, sink)?;

@@ -1,8 +1,8 @@
 //! A line that presses a key or moves a fader, which is all that it does.
 
-ghost use Rattle.std.specs.Prelude.{◌≡◌, ◌≢◌, IfOk, IsTrue, Some, is_none, is_some, true};
+ghost use Rattle.std.specs.Prelude.{◌≡◌, ◌≢◌, IsTrue, Some, false, is_none, is_some, true};
 ghost use Rattle.lx_session.specs.Imports.{HasSinkCause, Desk, StandsFor, Attempted, ListenedAttempt, heard_of, SparedAnswer, FromDesk};
-ghost use Rattle.lx_session.specs.Imports.{TallyHasRoom, HasOneMore};
+ghost use Rattle.lx_session.specs.Imports.{TallyHasRoom, HasOneMore, GoesOnUnless};
 
 use crate::finish::{give, reply_of};
 use crate::listener::Listener;
@@ -28,7 +28,7 @@ pub(crate) fn answer_key<L: Listener, K: Sink>(
         K.Sink sink.old sink.new result s
         (Some (Line.Command (Command.Key key))) console.new tally.new) }
     ensures all { L.admitted_all listener.new ≡ true → L.admitted_all listener.old ≡ true }
-    ensures goes_on { IfOk result (λ more. more ≡ true) }
+    ensures goes_on { GoesOnUnless false result }
     ensures cause { HasSinkCause K.Sink sink.old sink.new result }
     ensures more { HasOneMore tally.old tally.new }
 {

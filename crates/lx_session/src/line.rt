@@ -1,9 +1,9 @@
 //! One line, from its bytes to its reply.
 
-ghost use Rattle.std.specs.Prelude.{◌≡◌, ◌≢◌, ◌≤◌, ◌++◌, IfOk, IfSome, None, Some, not, true, option_copied};
+ghost use Rattle.std.specs.Prelude.{◌≡◌, ◌≢◌, ◌≤◌, ◌++◌, IfSome, None, Some, true, option_copied};
 ghost use Rattle.lx_session.specs.Imports.{HasSinkCause, Desk, is_quit, DeskState, ValidCommand, ValidLine, StandsFor, ListenedAttempt};
 ghost use Rattle.lx_session.specs.Imports.{heard_of, meaning_of, next_of, HasPassed, LineProgress, TallyHasRoom, HasOneMore, LineAnswer};
-ghost use Rattle.lx_session.specs.Imports.{SparedAnswer, FromDesk, IsAmple};
+ghost use Rattle.lx_session.specs.Imports.{SparedAnswer, FromDesk, IsAmple, GoesOnUnless};
 
 use crate::finish::{give, put_universe};
 use crate::key::answer_key;
@@ -34,7 +34,7 @@ pub fn answer<L: Listener, K: Sink>(
         (λ s. LineAnswer (L.admitted_all listener.new) (L.heard listener.old listener.new) K.Sink sink.old sink.new result s
         (meaning_of (option_copied line.entry)) console.new tally.new) }
     ensures all { L.admitted_all listener.new ≡ true → L.admitted_all listener.old ≡ true }
-    ensures quit { IfOk result (λ more. more ≡ not (is_quit (meaning_of (option_copied line.entry)))) }
+    ensures quit { GoesOnUnless (is_quit (meaning_of (option_copied line.entry))) result }
     ensures cause { HasSinkCause K.Sink sink.old sink.new result }
     ensures more { HasOneMore tally.old tally.new }
 {
@@ -59,7 +59,7 @@ pub fn answer_in<L: Listener, H: Heap, K: Sink>(
         (L.heard listener.old listener.new) K.Sink sink.old sink.new result s
         (meaning_of (option_copied line.entry)) console.new tally.new) }
     ensures all { L.admitted_all listener.new ≡ true → L.admitted_all listener.old ≡ true }
-    ensures quit { IfOk result (λ more. more ≡ not (is_quit (meaning_of (option_copied line.entry)))) }
+    ensures quit { GoesOnUnless (is_quit (meaning_of (option_copied line.entry))) result }
     ensures cause { HasSinkCause K.Sink sink.old sink.new result }
     ensures more { HasOneMore tally.old tally.new }
     ensures later { H.refusals heap.old ≤ H.refusals heap.new }
@@ -88,7 +88,7 @@ pub fn answer_inlined<L: Listener, H: Heap, K: Sink>(
         (L.heard listener.old listener.new) K.Sink sink.old sink.new result s
         (meaning_of (option_copied line.entry)) console.new tally.new) }
     ensures all { L.admitted_all listener.new ≡ true → L.admitted_all listener.old ≡ true }
-    ensures quit { IfOk result (λ more. more ≡ not (is_quit (meaning_of (option_copied line.entry)))) }
+    ensures quit { GoesOnUnless (is_quit (meaning_of (option_copied line.entry))) result }
     ensures cause { HasSinkCause K.Sink sink.old sink.new result }
     ensures more { HasOneMore tally.old tally.new }
     ensures later { H.refusals heap.old ≤ H.refusals heap.new }
@@ -125,7 +125,7 @@ fn answer_any<L: Listener, H: Heap, K: Sink>(
         (L.heard listener.old listener.new) K.Sink sink.old sink.new result s
         (meaning_of (option_copied line.entry)) console.new tally.new) }
     ensures all { L.admitted_all listener.new ≡ true → L.admitted_all listener.old ≡ true }
-    ensures quit { IfOk result (λ more. more ≡ not (is_quit (meaning_of (option_copied line.entry)))) }
+    ensures quit { GoesOnUnless (is_quit (meaning_of (option_copied line.entry))) result }
     ensures cause { HasSinkCause K.Sink sink.old sink.new result }
     ensures more { HasOneMore tally.old tally.new }
     ensures later { H.refusals heap.old ≤ H.refusals heap.new }
@@ -151,7 +151,7 @@ fn read_and_answer<L: Listener, H: Heap, K: Sink>(
         (L.heard listener.old listener.new) K.Sink sink.old sink.new result s
         (meaning_of (option_copied line.entry)) console.new tally.new) }
     ensures all { L.admitted_all listener.new ≡ true → L.admitted_all listener.old ≡ true }
-    ensures quit { IfOk result (λ more. more ≡ not (is_quit (meaning_of (option_copied line.entry)))) }
+    ensures quit { GoesOnUnless (is_quit (meaning_of (option_copied line.entry))) result }
     ensures cause { HasSinkCause K.Sink sink.old sink.new result }
     ensures more { HasOneMore tally.old tally.new }
     ensures later { H.refusals heap.old ≤ H.refusals heap.new }
@@ -183,7 +183,7 @@ fn answer_read<L: Listener, H: Heap, K: Sink>(
         (L.heard listener.old listener.new) K.Sink sink.old sink.new result s
         (Some line.entry) console.new tally.new) }
     ensures all { L.admitted_all listener.new ≡ true → L.admitted_all listener.old ≡ true }
-    ensures quit { IfOk result (λ more. more ≡ not (is_quit (Some line.entry))) }
+    ensures quit { GoesOnUnless (is_quit (Some line.entry)) result }
     ensures cause { HasSinkCause K.Sink sink.old sink.new result }
     ensures more { HasOneMore tally.old tally.new }
     ensures later { H.refusals heap.old ≤ H.refusals heap.new }

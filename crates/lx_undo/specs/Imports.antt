@@ -2,6 +2,7 @@
 pub use Rattle.lx_io.specs.Puts.{Puts}
 pub use Rattle.lx_spec.specs.Undo.{UndoState}
 pub use Rattle.lx_spec.specs.UndoSession.{after_asking}
+pub use Rattle.lx_session.specs.OneAnswer.{GoesOnUnless}
 pub use Rattle.lx_session.specs.Spared.{HasStood}
 pub use Rattle.lx_session.specs.LineReply.{TallyHasRoom, HasOneMore, counts_in}
 pub use Rattle.lx_script.specs.UndoLines.{NamesCue}

@@ -1,8 +1,8 @@
 //! Lines that ask something of the history, done and answered.
 
-ghost use Rattle.std.specs.Prelude.{◌≡◌, ◌≤◌, true, Err, IfOk, IfSome};
+ghost use Rattle.std.specs.Prelude.{◌≡◌, ◌≤◌, false, Err, IfSome};
 ghost use Rattle.lx_undo.specs.Imports.{Puts, UndoState, after_asking, HasStood, TallyHasRoom, HasOneMore, counts_in, NamesCue, UndoStands};
-ghost use Rattle.lx_undo.specs.Imports.{HasAsked, answer_text, counted_denial, denial_text};
+ghost use Rattle.lx_undo.specs.Imports.{HasAsked, GoesOnUnless, answer_text, counted_denial, denial_text};
 
 use crate::desk::UndoDesk;
 use lx_io::{Heap, Sink, SinkFault};
@@ -54,7 +54,7 @@ pub(crate) fn give<K: Sink>(
     ensures text { Puts K.Sink sink.old sink.new result (answer_text denial) }
     ensures counts { counts_in tally.new ≡ counted_denial denial (counts_in tally.old) }
     ensures counted_denial { HasOneMore tally.old tally.new }
-    ensures more { IfOk result (λ more. more ≡ true) }
+    ensures more { GoesOnUnless false result }
 {
     match denial {
         None => tally.ok += 1,

@@ -1,6 +1,6 @@
 //! Sessions of a desk with its history.
 
-ghost use Rattle.std.specs.Prelude.{◌≡◌, ◌≤◌, ◌-◌, ◌≢◌, List, ℕ, Bool, IfOk, IfSome, None, Some, not, true, option_copied};
+ghost use Rattle.std.specs.Prelude.{◌≡◌, ◌≤◌, ◌-◌, ◌≢◌, List, ℕ, Bool, IfSome, None, Some, true, false, option_copied};
 ghost use Rattle.lx_io.specs.Puts.{HasSinkCause};
 ghost use Rattle.lx_lex.specs.Unread.{CanAdvance, SameSource, bytes_taken, source_left, unread};
 ghost use Rattle.lx_spec.specs.Script.{line_of};
@@ -12,7 +12,7 @@ ghost use Rattle.lx_spec.specs.ValidEdit.{ValidLine};
 ghost use Rattle.lx_session.specs.LineState.{next_of, unattempted};
 ghost use Rattle.lx_session.specs.LineProgress.{LineProgress};
 ghost use Rattle.lx_session.specs.LineReply.{TallyHasRoom, HasOneMore, counts_in};
-ghost use Rattle.lx_session.specs.OneAnswer.{IsLine, OneAnswer};
+ghost use Rattle.lx_session.specs.OneAnswer.{IsLine, OneAnswer, GoesOnUnless};
 ghost use Rattle.lx_session.specs.Spared.{HasStood, spared};
 ghost use Rattle.lx_session.specs.ScriptAnswer.{ScriptAnswered};
 ghost use Rattle.lx_session.specs.SessionOutcome.{HasSessionCause, KeepsLimit};
@@ -131,7 +131,7 @@ fn answer_asked<H: Heap, K: Sink>(
         → undo_line_of text ≡ Some what
         → OneAnswer (spared ample undo_answering) K.Sink sink.old sink.new result s text
         (λ state. UndoStands state desk.new) tally.new }
-    ensures more { IfOk result (λ more. more ≡ true) }
+    ensures more { GoesOnUnless false result }
     ensures cause { HasSinkCause K.Sink sink.old sink.new result }
     ensures counted { HasOneMore tally.old tally.new }
     ensures later { H.refusals heap.old ≤ H.refusals heap.new }
@@ -156,7 +156,7 @@ fn answer_plain<H: Heap, K: Sink>(
         → meaning.entry ≡ line_of text → undo_line_of text ≡ None
         → OneAnswer (spared ample undo_answering) K.Sink sink.old sink.new result s text
         (λ state. UndoStands state desk.new) tally.new }
-    ensures quit { IfOk result (λ more. (text : List ℕ) → meaning.entry ≡ line_of text → more ≡ not (ends_script text)) }
+    ensures quit { (text : List ℕ) → meaning.entry ≡ line_of text → GoesOnUnless (ends_script text) result }
     ensures cause { HasSinkCause K.Sink sink.old sink.new result }
     ensures counted { HasOneMore tally.old tally.new }
     ensures later { H.refusals heap.old ≤ H.refusals heap.new }

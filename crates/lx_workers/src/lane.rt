@@ -7,6 +7,7 @@ ghost use Rattle.lx_workers.specs.Works.{HasServed, Delivered};
 
 use crate::worker::put_newest;
 use crate::{Served, Stop, serve};
+use lx_base::UNIVERSE_SLOTS;
 use lx_gate::{Note, Port, Tap};
 use lx_io::{Pace, Sink};
 use lx_work::Work;
@@ -53,7 +54,7 @@ impl<P: Port, K: Sink, C: Pace> Lane<'_, P, K, C> {
         if self.served.fault.is_some() {
             return;
         }
-        let mut slots = [0; 512];
+        let mut slots = [0; UNIVERSE_SLOTS];
         let stamp = self.tap.kept(&mut slots);
         put_newest(
             &self.tap,

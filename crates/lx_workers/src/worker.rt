@@ -4,6 +4,7 @@ ghost use Rattle.lx_workers.specs.Imports.{IsPrefix, Rose, Puts, IsFrame, newest
 ghost use Rattle.lx_workers.specs.Imports.{HasLooked};
 
 use crate::Halt;
+use lx_base::UNIVERSE_SLOTS;
 use lx_gate::{Port, Stamp, Tap};
 use lx_io::{Pace, Sink, SinkFault};
 use lx_script::put_frame;
@@ -74,7 +75,7 @@ fn step<P: Port, K: Sink, C: Pace>(tap: &mut Tap<P>, sink: &mut K, pace: &C, ser
     ensures stepped { HasStepped K.Sink P.show tap.old tap.new sink.old sink.new served.old served.new }
     ensures looked { HasLooked tap.old.told tap.new.told }
 {
-    let mut slots = [0; 512];
+    let mut slots = [0; UNIVERSE_SLOTS];
     let stamp = tap.take(&mut slots);
     served.takes = served.takes.saturating_add(1);
     put_newest(tap, &slots, stamp, sink, pace, served);
@@ -83,7 +84,7 @@ fn step<P: Port, K: Sink, C: Pace>(tap: &mut Tap<P>, sink: &mut K, pace: &C, ser
 /// The line of what a tap keeps, where it is the first or newer than the last.
 pub(crate) fn put_newest<P: Port, K: Sink, C: Pace>(
     tap: &Tap<P>,
-    slots: &[u8; 512],
+    slots: &[u8; UNIVERSE_SLOTS],
     stamp: Stamp,
     sink: &mut K,
     pace: &C,
@@ -110,7 +111,7 @@ pub(crate) fn put_newest<P: Port, K: Sink, C: Pace>(
 #[tactic(auto, using(lx_io::proofs::Chain::puts), unfolding(crate::specs::Lines::stamped_line))]
 fn put_line<K: Sink>(
     universe: u8,
-    slots: &[u8; 512],
+    slots: &[u8; UNIVERSE_SLOTS],
     stamp: Stamp,
     sink: &mut K,
 ) -> Result<(), SinkFault>

@@ -1,5 +1,4 @@
 use Rattle.lx_session.proofs.Imports.{◌∙◌, ap, inl, inr, Bool, false, Ok, refl, arith, option_copied, handed_one, Keeps-trans, MayTake, spared}
-use Rattle.std.proofs.lemmas.Result.{IfOk-weaker}
 use Rattle.lx_session.proofs.LineOutcomes.{TakenLine, LineIsAnswered, failed_as, replied, ended, unflushed, unwritten, end_unflushed}
 use Rattle.lx_session.proofs.LineOutcomes.{kept_then, sink_cause, kept_cause}
 use Rattle.lx_session.proofs.Stood.{spared_lawful}
@@ -37,7 +36,7 @@ answered g c all ample may =
       lawful = spared_lawful ample (g.A.AnswersBeside.by all) (c.answer_beside.ensures.lawful all);
       kept = c.flush_before_wait.ensures.holds;
       answered = λ since s stands counts. c.answer_beside.ensures.answered all ample may since s _ stands counts t.is;
-      ends = IfOk-weaker c.answer_beside.result _ _ (λ more told. told _ t.is) c.answer_beside.ensures.quit;
+      ends = c.answer_beside.ensures.quit _ t.is;
     }
 
 pub answer_beside-requires-clause-room : goal.answer_beside-requires-clause-room

@@ -1,4 +1,5 @@
-use Rattle.lx_undo.proofs.Imports.{◌∙◌, ap, not, refl, IfOk-weaker, Option, Line, is_quit, LineState}
+use Rattle.lx_undo.proofs.Imports.{◌∙◌, ap, subst, refl, Option, Line, is_quit, LineState}
+use Rattle.lx_session.specs.OneAnswer.{GoesOnUnless}
 use Rattle.lx_undo.proofs.LineAnswers.{answered_line}
 use Rattle.lx_undo.proofs.session.answer_plain.Goals as goal
 
@@ -14,6 +15,6 @@ returns-clause-answered g c = λ ample stood s text stands counted is none.
     c.attempt_all.ensures.over c.finish.ensures.text c.finish.ensures.counts
 
 pub returns-clause-quit : goal.returns-clause-quit
-returns-clause-quit g c =
+returns-clause-quit g c = λ text line.
     let same = c.attempt_all.ensures.meaning ∙ ap (λ (t : LineState). t.meaning) c.of-turn.ensures in
-    IfOk-weaker c.finish.result _ _ (λ more is text line. is ∙ ap (λ (m : Option Line). not (is_quit m)) (same ∙ line)) c.finish.ensures.quit
+    subst (λ (m : Option Line). GoesOnUnless (is_quit m) c.finish.result) (same ∙ line) c.finish.ensures.quit

@@ -1,4 +1,3 @@
-use Rattle.lx_lists.proofs.Imports.{◌∙◌, IfOk-weaker, ap, not, sym}
 use Rattle.lx_lists.proofs.SecondLines.{goes_on}
 use Rattle.lx_lists.proofs.TwoAnswers.{two_lawful}
 use Rattle.lx_lists.proofs.session.TwoListsAnswers.answer_in.Goals as goal
@@ -8,9 +7,7 @@ returns-in-Some-clause-answered g c = λ ample stood s text stands counted is.
     c.answer_second.ensures.answered ample stood s text stands counted (c.in-Some.ensures.second text is)
 
 pub returns-in-Some-clause-quit : goal.returns-in-Some-clause-quit
-returns-in-Some-clause-quit g c =
-    IfOk-weaker c.answer_second.result _ _ (λ more is text line. is ∙ sym (ap not (goes_on text (c.in-Some.ensures.second text line).second)))
-    c.answer_second.ensures.more
+returns-in-Some-clause-quit g c = λ text line. rw (goes_on text (c.in-Some.ensures.second text line).second) c.answer_second.ensures.more
 
 pub returns-in-Some-clause-lawful : goal.returns-in-Some-clause-lawful
 returns-in-Some-clause-lawful g c = two_lawful
