@@ -1,7 +1,7 @@
 //! The reply to a line, as it is kept.
 #![tactic(auto, using(lx_io::proofs::Chain::puts))]
 
-ghost use Rattle.std.specs.Prelude.{◌≡◌, ◌≤◌, ◌<◌, ◌+◌, ◌^◌, ◌++◌, [], Some, length, IsOk, IfOk, OnOk};
+ghost use Rattle.std.specs.Prelude.{◌≡◌, ◌≤◌, ◌<◌, ◌+◌, ◌^◌, ◌++◌, [], Some, length, IsOk, IfOk, OnOk, OnErr};
 ghost use Rattle.std.specs.Io.KnownBytes.{WriteAppends, Keeps};
 ghost use Rattle.lx_io.specs.Causes.{HasCause};
 ghost use Rattle.lx_io.specs.SinkCalls.{HasSinkCauseBy};
@@ -12,8 +12,8 @@ use std::alloc::{AllocError, Global};
 /// How much room the first reply opens.
 const FIRST: usize = 8_192;
 
-/// The reply to a line. Its room is used again for the next, so that few lines take memory. A write fails only where the heap refuses the
-/// room for it.
+/// The reply to a line. Its room is used again for the next, so that few lines take memory. A write fails only where its room is full, and
+/// the heap refuses more.
 #[derive(Drop)]
 pub struct ReplyText {
     /// The room that was opened so far, of which the first bytes are the reply.
@@ -72,6 +72,7 @@ impl ReplyText {
         requires { count < 2 ^ 63 }
         ensures bytes { reply_bytes self.new ≡ reply_bytes self.old }
         ensures room { OnOk result (self.new.len + count ≤ length self.new.room.items) }
+        ensures full { OnErr result (length self.old.room.items < self.old.len + count) }
         ensures cause { HasSinkCauseBy (λ _. 0) wants_of self.old self.new result }
     {
         if self.len + count > self.room.len() {
@@ -131,6 +132,7 @@ impl Sink for ReplyText {
         ensures bytes { WriteAppends (Some (reply_bytes self.old)) (Some (reply_bytes self.new)) result piece.now }
         ensures cause { HasSinkCauseBy (λ _. 0) wants_of self.old self.new result }
         ensures whole { IfOk result (λ n. n ≡ length piece.now) }
+        ensures full { OnErr result (length self.old.room.items < self.old.len + length piece.now) }
     {
         self.ensure_room(piece.len())?;
         self.keep(piece);

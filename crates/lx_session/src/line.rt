@@ -42,7 +42,8 @@ pub fn answer<L: Listener, K: Sink>(
     answer_in(listener, &mut heap, console, line, sink, tally)
 }
 
-/// The same, by a heap. A command that the listener admits is refused with `Memory` only where the heap refused memory in this call.
+/// The same, by a heap. Where the listener has admitted every command so far, one is refused with `Memory` only where the heap refused
+/// memory in this call.
 pub fn answer_in<L: Listener, H: Heap, K: Sink>(
     listener: &mut L,
     heap: &mut H,

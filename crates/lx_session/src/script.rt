@@ -67,8 +67,8 @@ pub fn session_in<H: Heap, S: Source, K: Sink>(
     session_with_in(&mut NoListener, heap, console, lines, sink)
 }
 
-/// As `session_in`, with a listener: a command that it doesn't admit is refused with `Memory`, and it hears of each command that is
-/// accepted, in order. Where the heap refused nothing in this call and every command was admitted, none failed as out of memory.
+/// As `session_in`, with a listener: a command that it doesn't admit isn't accepted, and it hears of each command that is, in
+/// order. Where the heap refused nothing in this call and every command was admitted, none failed as out of memory.
 pub fn session_with_in<L: Listener, H: Heap, S: Source, K: Sink>(
     listener: &mut L,
     heap: &mut H,
