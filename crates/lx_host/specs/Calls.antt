@@ -78,7 +78,6 @@ pub record DidLine (status : ℕ) (before now : HostDesk) (line room room' : Lis
   pub answers : ByMemory before.heap.refusals now.heap.refusals
       (λ ample. Answered ample before.engine now.engine line answer (reply_bytes now.reply))
   pub wanted : OnErr answer (Rose (wants_of before.reply) (wants_of now.reply))
-  pub later : before.heap.refusals ≤ now.heap.refusals
   pub taken : now.taken ≡ before.taken
   pub length_told : count ≡ length (reply_bytes now.reply)
   pub put : room' ≡ put_in_front (reply_bytes now.reply) room
