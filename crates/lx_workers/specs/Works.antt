@@ -1,5 +1,5 @@
 -- What a worker promises, and what an outlet has at the end.
-use Rattle.std.specs.Prelude.{◌≡◌, ℕ, ◌+◌, ◌-◌, ◌^◌, ◌≤◌, ◌⊎◌, List, [], ◌∷◌, length, min, Some, None}
+use Rattle.std.specs.Prelude.{◌≡◌, ℕ, ◌+◌, ◌-◌, ◌^◌, ◌⊎◌, List, [], ◌∷◌, length, min, Some, None}
 use Rattle.std.specs.declared.option.Option.{Option}
 use Rattle.std.specs.Io.KnownBytes.{Appends}
 use mathlib.Core.List.{IsPrefix}
@@ -17,9 +17,9 @@ use Rattle.lx_workers.specs.Lines.{HasWritten, HasWrittenPart, HasFault}
 abbrev pub RoseOrSame : ℕ → ℕ → Type 0
 RoseOrSame before now = (now ≡ before) ⊎ Rose before now
 
--- the port had at least this many readings and misses
+-- the port had exactly this many readings and misses, as far as they can be counted
 abbrev pub HasTakenTimes : Told → Told → ℕ → Type 0
-HasTakenTimes before now takes = min (before.reads + before.misses + takes) (2 ^ 64 - 1) ≤ now.reads + now.misses
+HasTakenTimes before now takes = min (now.reads + now.misses) (2 ^ 64 - 1) ≡ min (before.reads + before.misses + takes) (2 ^ 64 - 1)
 
 -- From the tap and the sink before to those after a worker's run. Behind a line without a fault the sink keeps nothing back. What the port
 -- has seen never falls.
