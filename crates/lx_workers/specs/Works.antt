@@ -56,6 +56,11 @@ pub record HasPutNewest {K : Type 0} (told : ToldBySink K) (show : Show) (tap : 
 abbrev pub HasLooked : Told → Told → Type 0
 HasLooked before now = Rose before.reads now.reads ⊎ Rose before.misses now.misses
 
+-- a worker that had no fault: its last line is that of the newest list, and its port had a reading or a miss
+pub record HasEnded (before now : Told) (served : Served) : Type 0 where
+  pub last : served.fault ≡ None → served.last ≡ Some (length (newest now))
+  pub looked : served.fault ≡ None → HasLooked before now
+
 -- an outlet has the lines of rising prefixes of what was published, of which the last is all that was published
 pub record HasAll (show : Show) (universe : ℕ) (before after : Option (List ℕ)) (published : List Command) : Type 0 where
   pub earlier : List (List Command)
