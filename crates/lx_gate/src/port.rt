@@ -150,7 +150,11 @@ fn copy_later<G: Origin>(
 }
 
 /// Copies the slots of a universe.
-fn copy_slots<G: Origin>(version: &Version<G>, universe: u8, out: &mut [u8; UNIVERSE_SLOTS]) -> Stamp
+fn copy_slots<G: Origin>(
+    version: &Version<G>,
+    universe: u8,
+    out: &mut [u8; UNIVERSE_SLOTS],
+) -> Stamp
     requires low { 1 ≤ universe }
     requires high { universe ≤ UNIVERSES }
     ensures slots { out.new ≡ slice_range version.now.slots (UNIVERSE_SLOTS * (universe - 1)) (UNIVERSE_SLOTS * universe) }
