@@ -1,7 +1,7 @@
 -- What a port and a tap tell of a reading, and of what they learnt.
 use Rattle.std.specs.Prelude.{◌≡◌, ℕ, ◌+◌, List, []}
 use mathlib.Core.List.{IsPrefix}
-use Rattle.lx_io.specs.Causes.{Rose}
+use Rattle.lx_io.specs.Causes.{one_more}
 use Rattle.lx_spec.specs.Show.{Show}
 use Rattle.lx_spec.specs.declared.Command.{Command}
 use Rattle.lx_gate.specs.declared.stamp.Stamp.{Stamp}
@@ -37,18 +37,18 @@ pub record IsReading (show : Show) (universe : ℕ) (before now : Told) (slots :
   pub frame : IsFrame show now.seen universe slots stamp
   pub goes_on : IsPrefix before.seen now.seen
   pub heard : IsPrefix before.learnt now.seen
-  pub rose : Rose before.reads now.reads
+  pub rose : now.reads ≡ one_more before.reads
   pub rest : now ≡ record before { seen = now.seen; reads = now.reads }
 
--- there was a reading: its list is now seen, and none that was learnt is longer
+-- there was a reading, and it is counted once: its list is now seen, and none that was learnt is longer
 pub record HasReadOn (before now : Told) : Type 0 where
   pub newest_is : newest now ≡ now.seen
-  pub rose : Rose before.reads now.reads
+  pub rose : now.reads ≡ one_more before.reads
   pub rest : now ≡ record before { seen = now.seen; reads = now.reads }
 
--- there was none, and all but the count of misses is as before
+-- there was none: it is counted once as a miss, and all else is as before
 pub record HasMissed (before now : Told) : Type 0 where
-  pub rose : Rose before.misses now.misses
+  pub rose : now.misses ≡ one_more before.misses
   pub rest : now ≡ record before { misses = now.misses }
 
 -- the list of a note was learnt, and all else is as before

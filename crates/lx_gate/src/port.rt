@@ -1,5 +1,6 @@
 //! What a tap reads from.
 ghost use Rattle.std.specs.Prelude.{◌≡◌, ◌≤◌, ◌-◌, ◌*◌, ◌⊎◌, ℕ, List, None, IfSome, MatchOption, slice_range, [], IsTrue};
+ghost use Rattle.std.specs.Prelude.{Bool, IsSome, is_some};
 ghost use mathlib.Core.List.{IsPrefix};
 ghost use Rattle.lx_io.specs.Causes.{Rose};
 ghost use Rattle.lx_gate.specs.Frames.{IsVersion, IsFrame};
@@ -26,6 +27,9 @@ pub trait Port {
     /// What it was told.
     ghost told: { Self → Told };
 
+    /// Whether it has what gives readings.
+    ghost can_read: { Self → Bool };
+
     /// Gives the slots of a universe and the stamp, wholly of one version. None is a miss: `out` is as before.
     fn read(&mut self, universe: u8, out: &mut [u8; UNIVERSE_SLOTS]) -> Option<Stamp>
         requires low { 1 ≤ universe }
@@ -33,13 +37,15 @@ pub trait Port {
         ensures some { IfSome result (λ stamp. IsReading show universe (told self.old) (told self.new) out.new stamp) }
         ensures none { result ≡ None → HasMissed (told self.old) (told self.new) }
         ensures kept { result ≡ None → out.new ≡ out.old }
-        ensures chained { IsChained (told self.new).seen (told self.new).learnt };
+        ensures chained { IsChained (told self.new).seen (told self.new).learnt }
+        ensures can_read { can_read self.new ≡ can_read self.old };
 
     /// Learns what a note has. Each later reading has at least that.
     fn learn(&mut self, note: Note)
         requires gate { IsNoteOf show book note }
         ensures learnt { HasLearnt (told self.old) (told self.new) (commands_of_note note) }
-        ensures chained { IsChained (told self.new).seen (told self.new).learnt };
+        ensures chained { IsChained (told self.new).seen (told self.new).learnt }
+        ensures can_read { can_read self.new ≡ can_read self.old };
 }
 
 pub type GateReader<G> = Reader<Version<G>, (), GateRule<G>>;
@@ -61,6 +67,7 @@ impl<G: Origin> LrPort<G, GateReader<G>> {
     pub fn new(reader: Option<GateReader<G>>, seen: Prefix<G>, learnt: Prefix<G>) -> GatePort<G>
         ensures seen { (result.seen ≡ seen) × (result.learnt ≡ learnt) }
         ensures counts { (result.reads ≡ 0) × (result.misses ≡ 0) }
+        ensures reader { result.reader ≡ reader }
     {
         LrPort {
             reader,
@@ -78,6 +85,8 @@ impl<G: Origin> Port for LrPort<G, GateReader<G>> {
     ghost book = { G.book };
 
     ghost told = { λ p. record { seen = p.seen; learnt = p.learnt; reads = p.reads; misses = p.misses } };
+
+    ghost can_read = { λ p. is_some p.reader };
 
     fn read(&mut self, universe: u8, out: &mut [u8; UNIVERSE_SLOTS]) -> Option<Stamp> {
         self.seen.chain(&self.learnt);
@@ -132,6 +141,7 @@ fn copy_later<G: Origin>(
     ensures frame { IfSome result (λ stamp. IsFrame G.show version.now.list universe out.new stamp) }
     ensures seen { IfSome result (λ _. IsPrefix seen.now version.now.list) }
     ensures learnt { IfSome result (λ _. IsPrefix learnt.now version.now.list) }
+    ensures goes_on { IsPrefix seen.now version.now.list → IsPrefix learnt.now version.now.list → IsSome result }
 {
     if version.list.follows(seen) && version.list.follows(learnt) {
         return Some(copy_slots(version, universe, out));
@@ -140,7 +150,11 @@ fn copy_later<G: Origin>(
 }
 
 /// Copies the slots of a universe.
-fn copy_slots<G: Origin>(version: &Version<G>, universe: u8, out: &mut [u8; UNIVERSE_SLOTS]) -> Stamp
+fn copy_slots<G: Origin>(
+    version: &Version<G>,
+    universe: u8,
+    out: &mut [u8; UNIVERSE_SLOTS],
+) -> Stamp
     requires low { 1 ≤ universe }
     requires high { universe ≤ UNIVERSES }
     ensures slots { out.new ≡ slice_range version.now.slots (UNIVERSE_SLOTS * (universe - 1)) (UNIVERSE_SLOTS * universe) }

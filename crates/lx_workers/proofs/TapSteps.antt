@@ -23,22 +23,27 @@ pub record HasTaken (before now : Told) : Type 0 where
   pub misses : RoseOrSame before.misses now.misses
   pub looked : HasLooked before now
   pub seen : IsPrefix before.seen now.seen
-  pub counted : (Rose before.reads now.reads × (now.misses ≡ before.misses)) ⊎ (Rose before.misses now.misses × (now.reads ≡ before.reads))
+  pub counted : ((now.reads ≡ one_more before.reads) × (now.misses ≡ before.misses))
+      ⊎ ((now.misses ≡ one_more before.misses) × (now.reads ≡ before.reads))
+
+-- one more is a rise
+rose_by : {a b : ℕ} → b ≡ one_more a → Rose a b
+rose_by h = omega (arith, h)
 
 pub taken : (before now : Told) → IsPrefix before.seen (newest now) → HasReadOn before now ⊎ HasMissed before now → HasTaken before now
 taken before now p (inl h) = record {
   learnt = ap (λ (t : Told). t.learnt) h.rest;
-  reads = inr h.rose;
+  reads = inr (rose_by h.rose);
   misses = inl (ap (λ (t : Told). t.misses) h.rest);
-  looked = inl h.rose;
+  looked = inl (rose_by h.rose);
   seen = subst (λ (l : List Command). IsPrefix before.seen l) h.newest_is p;
   counted = inl (h.rose, ap (λ (t : Told). t.misses) h.rest);
 }
 taken before now p (inr h) = record {
   learnt = ap (λ (t : Told). t.learnt) h.rest;
   reads = inl (ap (λ (t : Told). t.reads) h.rest);
-  misses = inr h.rose;
-  looked = inr h.rose;
+  misses = inr (rose_by h.rose);
+  looked = inr (rose_by h.rose);
   seen = subst (λ (l : List Command). IsPrefix before.seen l) (sym (ap (λ (t : Told). t.seen) h.rest)) (prefix_self before.seen);
   counted = inr (h.rose, ap (λ (t : Told). t.reads) h.rest);
 }
@@ -47,8 +52,8 @@ taken before now p (inr h) = record {
 pub takes_on : (start before now : Told) (n : ℕ) → HasTakenTimes start before n → HasTaken before now
     → HasTakenTimes start now (one_more n)
 takes_on start before now n h t = ⊎_elim
-    (λ (s : Rose before.reads now.reads × (now.misses ≡ before.misses)). let r = s.0 in let e = s.1 in omega (arith, h, r, e))
-    (λ (s : Rose before.misses now.misses × (now.reads ≡ before.reads)). let r = s.0 in let e = s.1 in omega (arith, h, r, e)) t.counted
+    (λ (s : (now.reads ≡ one_more before.reads) × (now.misses ≡ before.misses)). let r = s.0 in let e = s.1 in omega (arith, h, r, e))
+    (λ (s : (now.misses ≡ one_more before.misses) × (now.reads ≡ before.reads)). let r = s.0 in let e = s.1 in omega (arith, h, r, e)) t.counted
 
 -- what is kept grows with what is learnt
 pub learnt_begins : (before now : Told) (list : List Command) → HasLearnt before now list → IsChained now.seen now.learnt

@@ -137,7 +137,7 @@ module _ {K : Type 0} (told : ToldBySink K) (show : Show) (tap : Tapped) (sink s
           (adds_part told show start.universe from sink sink' (newest tap.told) served.taken served.last slots stamp fault
           (subst (λ (n : ℕ). IsFrame show (newest tap.told) n slots stamp) h.same_universe frame)
           (subst (λ (n : ℕ). Puts {T = Unit {0}} told sink sink' (Err fault) (stamped_line n slots stamp)) h.same_universe puts) fresh
-          (h.written none));
+          (h.cause.kept none) (λ count is. h.handed_on count none is) (h.written none));
       cause = fault_now from (Err fault) h.cause puts.cause;
       handed_on = λ count e last. cc;
       goes_on = h.goes_on;

@@ -1,5 +1,5 @@
 -- Lines that are added to those of rising lists.
-use Rattle.lx_workers.proofs.Imports.{◌≡◌, ℕ, ◌<◌, ◌+◌, ◌-◌, ◌^◌, min, List, [], ◌∷◌, ◌++◌, length, take, Option, Some, None}
+use Rattle.lx_workers.proofs.Imports.{◌≡◌, ◌⊎◌, inl, inr, ℕ, ◌<◌, ◌+◌, ◌-◌, ◌^◌, min, List, [], ◌∷◌, ◌++◌, length, take, Option, Some, None}
 use Rattle.lx_workers.proofs.Imports.{Result, Ok, Err, IfSome, IsSomeAnd, ◌≤◌, refl, ap, ◌∙◌, subst, append-nil, arith, reverse, IsPrefix}
 use Rattle.lx_workers.proofs.Imports.{reverse-cons, Appends, Keeps, SinkFault, HasSinkCause, Puts, Show, Command, version_text, versions_text}
 use Rattle.lx_workers.proofs.Imports.{Stamp, IsFrame, prefix_self, prefix_trans, prefix_length, Older, Falling, newest_count, HasWritten, HasWrittenPart}
@@ -62,12 +62,20 @@ adds_line show u before after after' top taken last slots stamp frame is fresh h
       last_is = ap (λ (n : ℕ). Some n) frame.count_is;
     }
 
+-- behind a line the sink keeps nothing back
+handed_behind : {P : Type 0} (last : Option ℕ) (lists : List (List Command)) → last ≡ newest_count lists → ((count : ℕ) → last ≡ Some count → P)
+    → (lists ≡ []) ⊎ P
+handed_behind last [] e h = inl refl
+handed_behind last (list ∷ lists) e h = inr (h (length list) e)
+
 -- a part of the line was added, and then the sink had a fault
 pub adds_part : {K : Type 0} (told : ToldBySink K) (show : Show) (u : ℕ) (from sink sink' : K) (top : List Command) (taken : ℕ)
     (last : Option ℕ) (slots : List ℕ) (stamp : Stamp) (fault : SinkFault) → IsFrame show top u slots stamp
     → Puts {T = Unit {0}} told sink sink' (Err fault) (stamped_line u slots stamp) → IfSome last (λ n. n < stamp.count)
+    → (told.faults sink ≡ told.faults from) × (told.wants sink ≡ told.wants from)
+    → ((count : ℕ) → last ≡ Some count → told.back sink ≡ [])
     → HasWritten show u (told.holds from) (told.holds sink) top taken last → HasWrittenPart told show u from sink' top fault
-adds_part told show u from sink sink' top taken last slots stamp fault frame is fresh h =
+adds_part told show u from sink sink' top taken last slots stamp fault frame is fresh unfailed handed h =
     let stopped : Puts {T = Unit {0}} told sink sink' (Err fault) (version_text show u top) =
     subst (λ (w : List ℕ). Puts {T = Unit {0}} told sink sink' (Err fault) w) (line_is show u top slots stamp frame) is in
     let lines = outlet_text show u h.lists in
@@ -82,6 +90,8 @@ adds_part told show u from sink sink' top taken last slots stamp fault frame is 
           (Appends-trans (told.holds from) (told.holds sink) (told.holds sink') lines (take front.0 line) h.text front.1)));
       last = sink;
       whole = h.text;
+      unfailed = unfailed;
+      handed = handed_behind last h.lists h.last_is handed;
       stopped = stopped;
     }
 
@@ -95,6 +105,8 @@ part_on {top} {top'} p h = record {
   text = h.text;
   last = h.last;
   whole = h.whole;
+  unfailed = h.unfailed;
+  handed = h.handed;
   stopped = h.stopped;
 }
 

@@ -1,8 +1,9 @@
 -- The engine's commands: those that are published, and then those that aren't yet.
-use Rattle.std.specs.Prelude.{◌≡◌, ◌≤◌, ◌^◌, ℕ, List, [], ◌++◌, length, Bool, true, ◌&&◌, ltb, Option, Result, IfSome}
+use Rattle.std.specs.Prelude.{◌≡◌, ◌≤◌, ◌+◌, ◌-◌, ◌^◌, ℕ, List, [], ◌∷◌, ◌++◌, length, Bool, true, ◌&&◌, ltb, Option, Result, IfSome}
 use Rattle.std.specs.Prelude.{IsSomeAnd}
 use mathlib.Core.Path.{sym, ap, ◌∙◌}
 use mathlib.Core.List.{append-nil, append_assoc}
+use Rattle.std.proofs.Math.Nat.{add-le-add_iff_right, le-min, le_refl, le_trans, lt_of_le_of_lt, lt_of_lt_of_le, min-le_left, min-le_right}
 use Rattle.lx_io.specs.Told.{ToldBySink, ToldBySource}
 use Rattle.lx_lex.specs.declared.lines.Lines.{Lines}
 use Rattle.lx_lex.specs.Unread.{SameSource, bytes_taken, source_left, unread}
@@ -45,6 +46,16 @@ pub record SendsAll (refusals refusals' : ℕ) (unsent' : List Command) : Type 0
   pub later : refusals ≤ refusals'
   pub sent : HasStood refusals refusals' → unsent' ≡ []
 
+-- behind commands that were heard nothing is unsent, and behind none nothing where nothing was
+abbrev pub LeavesNone : (commands unsent unsent' : List Command) → Type 0
+LeavesNone [] unsent unsent' = unsent ≡ [] → unsent' ≡ []
+LeavesNone (command ∷ commands) unsent unsent' = unsent' ≡ []
+
+-- the same by the count of a writer's heap: where it refused nothing, each command was published when it was heard
+pub record HasSentOn (refusals : ℕ) (unsent : List Command) (refusals' : ℕ) (unsent' commands : List Command) : Type 0 where
+  pub later : refusals ≤ refusals'
+  pub sent : HasStood refusals refusals' → LeavesNone commands unsent unsent'
+
 pub accepted_nothing : (gate : Published) (unsent : List Command) → HasAccepted gate unsent gate unsent []
 accepted_nothing gate unsent = sym (append-nil (accepted_of gate unsent))
 
@@ -54,6 +65,33 @@ pub accepted_both : (gate : Published) (unsent : List Command) (gate' : Publishe
     → HasAccepted gate unsent gate'' unsent'' (before ++ after)
 accepted_both gate unsent gate' unsent' gate'' unsent'' before after one two =
     two ∙ (ap (λ l. l ++ after) one ∙ append_assoc (accepted_of gate unsent) before after)
+
+leaves_both : (before after unsent unsent' unsent'' : List Command) → LeavesNone before unsent unsent' → LeavesNone after unsent' unsent''
+    → LeavesNone (before ++ after) unsent unsent''
+leaves_both [] [] unsent unsent' unsent'' one two = λ none. two (one none)
+leaves_both [] (next ∷ after) unsent unsent' unsent'' one two = two
+leaves_both (command ∷ before) [] unsent unsent' unsent'' one two = two one
+leaves_both (command ∷ before) (next ∷ after) unsent unsent' unsent'' one two = two
+
+-- a count that stands at the end stood all along
+stood_first : {a b c : ℕ} → b ≤ c → HasStood a c → HasStood a b
+stood_first later stood = lt_of_le_of_lt later stood
+
+stood_then : {a b c : ℕ} → a ≤ b → HasStood a c → HasStood b c
+stood_then {a} {b} later stood = lt_of_lt_of_le stood
+    (le-min (le_trans (min-le_left (a + 1) (2 ^ 64 - 1)) ((add-le-add_iff_right 1).1 later)) (min-le_right (a + 1) (2 ^ 64 - 1)))
+
+pub sent_nothing : (refusals : ℕ) (unsent : List Command) → HasSentOn refusals unsent refusals unsent []
+sent_nothing refusals unsent = record { later = le_refl refusals; sent = λ stood none. none }
+
+pub sent_both : (refusals : ℕ) (unsent : List Command) (refusals' : ℕ) (unsent' : List Command) (refusals'' : ℕ) (unsent'' : List Command)
+    (before after : List Command)
+    → HasSentOn refusals unsent refusals' unsent' before → HasSentOn refusals' unsent' refusals'' unsent'' after
+    → HasSentOn refusals unsent refusals'' unsent'' (before ++ after)
+sent_both refusals unsent refusals' unsent' refusals'' unsent'' before after one two = record {
+  later = le_trans one.later two.later;
+  sent = λ stood. leaves_both before after unsent unsent' unsent'' (one.sent (stood_first two.later stood)) (two.sent (stood_then one.later stood));
+}
 
 -- A session was played. The console stands for the desk after all commands, and those that its lines came to are published or unsent. It
 -- answered as a session in which every command is admitted, unless there were too many to count; and where the heap refused nothing, no attempt

@@ -15,7 +15,7 @@ pub use Rattle.lx_io.specs.Causes.{Rose}
 pub use Rattle.lx_io.specs.Puts.{Puts}
 pub use Rattle.lx_gate.specs.Frames.{IsFrame}
 pub use Rattle.lx_workers.specs.Engines.{HasRunFrom}
-pub use Rattle.lx_workers.specs.Works.{HasServed, HasStepped, HasPutNewest, HasLooked}
+pub use Rattle.lx_workers.specs.Works.{HasServed, HasStepped, HasPutNewest, HasLooked, HasEnded}
 pub use Rattle.lx_workers.specs.Places.{IsFull, IsTaken, IsGiven}
 pub use Rattle.lx_workers.specs.LiveOutcome.{HasPlayedScript}
 pub use Rattle.lx_workers.specs.Lines.{stamped_line}

@@ -1,5 +1,5 @@
 -- The lines of an outlet.
-use Rattle.std.specs.Prelude.{◌≡◌, ℕ, ◌≤◌, List, [], ◌∷◌, length, decimal, min, ◌-◌, ◌^◌, Some, None, Err}
+use Rattle.std.specs.Prelude.{◌≡◌, ℕ, ◌≤◌, ◌⊎◌, List, [], ◌∷◌, length, decimal, min, ◌-◌, ◌^◌, Some, None, Err}
 use Rattle.std.specs.declared.option.Option.{Option}
 use Rattle.std.specs.Io.KnownBytes.{Appends}
 use Rattle.lx_io.specs.declared.sink.SinkFault.{SinkFault}
@@ -31,7 +31,8 @@ pub record HasWritten (show : Show) (universe : ℕ) (before after : Option (Lis
   pub taken_is : taken ≡ min (length lists) (2 ^ 64 - 1)
   pub last_is : last ≡ newest_count lists
 
--- the lines of rising lists were appended, and then a part of one more, in which the sink answered the fault; nothing came after that
+-- The lines of rising lists were appended, and then a part of one more, in which the sink answered the fault; nothing came after that. Up to
+-- that line the sink had no fault, and it had handed on the lines before.
 pub record HasWrittenPart {K : Type 0} (told : ToldBySink K) (show : Show) (universe : ℕ)
     (sink sink' : K) (top : List Command) (fault : SinkFault) : Type 0 where
   pub newest : List Command
@@ -40,6 +41,8 @@ pub record HasWrittenPart {K : Type 0} (told : ToldBySink K) (show : Show) (univ
   pub text : AppendsFront (told.holds sink) (told.holds sink') (outlet_text show universe (newest ∷ earlier))
   pub last : K
   pub whole : Appends (told.holds sink) (told.holds last) (outlet_text show universe earlier)
+  pub unfailed : (told.faults last ≡ told.faults sink) × (told.wants last ≡ told.wants sink)
+  pub handed : (earlier ≡ []) ⊎ (told.back last ≡ [])
   pub stopped : Puts {T = Unit {0}} told last sink' (Err fault) (version_text show universe newest)
 
 -- neither count of a sink has fallen, a fault comes only where its own count rose, and without one both stand as they were

@@ -1,5 +1,5 @@
 -- What a worker promises, and what an outlet has at the end.
-use Rattle.std.specs.Prelude.{◌≡◌, ℕ, ◌+◌, ◌-◌, ◌^◌, ◌≤◌, ◌⊎◌, List, [], ◌∷◌, length, min, Some, None}
+use Rattle.std.specs.Prelude.{◌≡◌, ℕ, ◌+◌, ◌-◌, ◌^◌, ◌⊎◌, List, [], ◌∷◌, length, min, Some, None}
 use Rattle.std.specs.declared.option.Option.{Option}
 use Rattle.std.specs.Io.KnownBytes.{Appends}
 use mathlib.Core.List.{IsPrefix}
@@ -17,9 +17,9 @@ use Rattle.lx_workers.specs.Lines.{HasWritten, HasWrittenPart, HasFault}
 abbrev pub RoseOrSame : ℕ → ℕ → Type 0
 RoseOrSame before now = (now ≡ before) ⊎ Rose before now
 
--- the port had at least this many readings and misses
+-- the port had exactly this many readings and misses, as far as they can be counted
 abbrev pub HasTakenTimes : Told → Told → ℕ → Type 0
-HasTakenTimes before now takes = min (before.reads + before.misses + takes) (2 ^ 64 - 1) ≤ now.reads + now.misses
+HasTakenTimes before now takes = min (now.reads + now.misses) (2 ^ 64 - 1) ≡ min (before.reads + before.misses + takes) (2 ^ 64 - 1)
 
 -- From the tap and the sink before to those after a worker's run. Behind a line without a fault the sink keeps nothing back. What the port
 -- has seen never falls.
@@ -55,6 +55,11 @@ pub record HasPutNewest {K : Type 0} (told : ToldBySink K) (show : Show) (tap : 
 -- the tap's port had a reading or a miss
 abbrev pub HasLooked : Told → Told → Type 0
 HasLooked before now = Rose before.reads now.reads ⊎ Rose before.misses now.misses
+
+-- a worker that had no fault: its last line is that of the newest list, and its port had a reading or a miss
+pub record HasEnded (before now : Told) (served : Served) : Type 0 where
+  pub last : served.fault ≡ None → served.last ≡ Some (length (newest now))
+  pub looked : served.fault ≡ None → HasLooked before now
 
 -- an outlet has the lines of rising prefixes of what was published, of which the last is all that was published
 pub record HasAll (show : Show) (universe : ℕ) (before after : Option (List ℕ)) (published : List Command) : Type 0 where

@@ -1,7 +1,7 @@
 //! The engine's listener: each command that a session accepts is published, in order.
 ghost use Rattle.std.specs.Prelude.{◌≡◌, ◌++◌, ℕ};
 ghost use Rattle.lx_gate.specs.Desks.{IsInStep};
-ghost use Rattle.lx_workers.specs.Engines.{accepted_of, HasAccepted, leaves_room, SendsAll};
+ghost use Rattle.lx_workers.specs.Engines.{accepted_of, HasAccepted, HasSentOn, leaves_room, SendsAll};
 
 use crate::Stop;
 use lx_console::Console;
@@ -41,20 +41,21 @@ pub struct Publisher<'r, 't, 'p, R: Wait, G: Origin, W: Window, C: Pace, B: Befo
 impl<R: Wait, G: Origin, C: Pace, B: Before> Listener
     for Publisher<'_, '_, '_, R, G, GateWriter<G>, C, B> {
     ghost use Rattle.std.specs.Prelude.{◌≡◌, ◌≤◌, true};
-    ghost use Rattle.lx_workers.specs.Engines.{accepted_nothing, accepted_both};
+    ghost use Rattle.lx_workers.specs.Engines.{accepted_nothing, accepted_both, sent_nothing, sent_both};
 
     ghost keeps = { λ x console. IsInStep G.show x.gate x.unsent console × (B.refusals ≤ x.writers) };
 
-    ghost heard = { λ x y commands. HasAccepted x.gate x.unsent y.gate y.unsent commands };
+    ghost heard = { λ x y commands. HasAccepted x.gate x.unsent y.gate y.unsent commands
+        × HasSentOn x.writers x.unsent y.writers y.unsent commands };
 
     ghost admitted_all = { λ x. leaves_room (accepted_of x.gate x.unsent) };
 
     ghost ready = { λ x _. leaves_room (accepted_of x.gate x.unsent) ≡ true };
 
-    ghost nothing = { λ x. accepted_nothing x.gate x.unsent };
+    ghost nothing = { λ x. (accepted_nothing x.gate x.unsent, sent_nothing x.writers x.unsent) };
 
-    ghost both = { λ x y z before after one two. accepted_both x.gate x.unsent y.gate y.unsent z.gate
-        z.unsent before after one two };
+    ghost both = { λ x y z before after one two. (accepted_both x.gate x.unsent y.gate y.unsent z.gate
+        z.unsent before after one.0 two.0, sent_both x.writers x.unsent y.writers y.unsent z.writers z.unsent before after one.1 two.1) };
 
     fn admit(&mut self, command: &Command) -> bool {
         if is_tick(command) {

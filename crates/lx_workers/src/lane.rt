@@ -3,7 +3,7 @@ ghost use Rattle.std.specs.Prelude.{◌≡◌, IsSome};
 ghost use mathlib.Core.List.{IsPrefix};
 ghost use Rattle.lx_gate.specs.Notes.{IsNoteOf, commands_of_note};
 ghost use Rattle.lx_gate.specs.Readings.{Tapped};
-ghost use Rattle.lx_workers.specs.Works.{HasServed, Delivered};
+ghost use Rattle.lx_workers.specs.Works.{HasServed, HasEnded, Delivered};
 
 use crate::worker::put_newest;
 use crate::{Served, Stop, serve};
@@ -26,7 +26,7 @@ pub struct Lane<'a, P: Port, K, C> {
 impl<P: Port, K: Sink, C: Pace> Work for Lane<'_, P, K, C> {
     ghost ready = { λ x. Unit {0} };
 
-    ghost done = { λ x y. HasServed K.Sink P.show x.tap y.tap x.sink y.sink y.served };
+    ghost done = { λ x y. HasServed K.Sink P.show x.tap y.tap x.sink y.sink y.served × HasEnded x.tap.told y.tap.told y.served };
 
     fn run<R: Wait>(&mut self, rt: &R) {
         self.served = serve(

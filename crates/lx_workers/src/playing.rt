@@ -3,7 +3,7 @@ ghost use Rattle.std.specs.Prelude.{◌≡◌, ◌+◌, ◌-◌, ◌<◌, ◌≤
 ghost use Rattle.std.specs.Prelude.{vec_capacity, ℕ, Bool, true, false, Some, None, slice_get, slice_set, List};
 ghost use Rattle.lx_workers.specs.Imports.{AllZip, CanAdvance, SameSource, bytes_taken, unread, opened, StandsFor, HasSessionCause};
 ghost use Rattle.lx_workers.specs.Imports.{KeepsLimit, HasStood, HandsOnReplies, Published, IsInStep, EachAt, IsNewTap, Rose, HasRunFrom};
-ghost use Rattle.lx_workers.specs.Imports.{HasServed, IsFull, IsTaken, IsGiven, HasPlayedScript};
+ghost use Rattle.lx_workers.specs.Imports.{HasServed, HasEnded, IsFull, IsTaken, IsGiven, HasPlayedScript};
 ghost use Rattle.lx_base.specs.declared.TheConstants.{INPUT_BYTES};
 ghost use Rattle.lx_workers.specs.declared.playing.TheConstants.{OUTLETS};
 ghost use Rattle.lx_io.specs.declared.sink.SinkFault.{SinkFault};
@@ -251,8 +251,8 @@ fn perform<
     ensures engine { HasRunFrom S.Source O.Sink G.show (H.refusals heap.old) writers.old gate.old console.old lines.old output.old
         (H.refusals heap.new) writers.new gate.new unsent.new console.new lines.new output.new result.1 }
     ensures count { vec_len result.0 ≡ vec_len lanes.entry }
-    ensures lanes { AllZip (λ x y. HasServed K.Sink G.show x.tap y.tap x.sink y.sink y.served) lanes.entry.items
-        result.0.items }
+    ensures lanes { AllZip (λ x y. HasServed K.Sink G.show x.tap y.tap x.sink y.sink y.served × HasEnded x.tap.told y.tap.told y.served)
+        lanes.entry.items result.0.items }
 {
     let mut engine = LiveEngine {
         heap: &mut *heap,

@@ -73,7 +73,7 @@ returns-clause-played g c = λ ample stood.
             is_back g.K.Sink g.G.Origin.show c.args.outlets.now c.give_back-faults.new.outlets
             c.give_back-faults.result c.in-Some.gate.published place (length c.args.outlets.now - 1 - place) (length c.args.outlets.now)
             (length c.fill_lanes-lanes.new.outlets) start x.0.tap y.0.tap x.0.sink y.0.sink y.0.served is within refl c.fill_lanes-lanes.ensures.same
-            (c.fill_lanes-lanes.ensures.lanes (length c.args.outlets.now - 1 - place) x.0 x.1) x.2
+            (c.fill_lanes-lanes.ensures.lanes (length c.args.outlets.now - 1 - place) x.0 x.1) x.2.0
             (c.give_back-faults.ensures.back (length c.args.outlets.now - 1 - place) y.0 y.1);
         others = λ place fault is. rw (sym c.fill_lanes-lanes.ensures.same) (c.give_back-faults.ensures.others place fault is);
       };

@@ -1,4 +1,4 @@
-use Rattle.lx_workers.proofs.Imports.{◌&&◌, ◌∙◌, sym, arith, accepted_of, leaves_room, HasAccepted}
+use Rattle.lx_workers.proofs.Imports.{◌&&◌, ◌∙◌, sym, arith, accepted_of, leaves_room, HasAccepted, HasSentOn}
 use Rattle.lx_workers.proofs.Runs.{ample_for, outcomes_as, sends_since}
 use Rattle.lx_workers.proofs.script.answer_script.Goals as goal
 
@@ -22,8 +22,9 @@ returns g c =
       outcome = λ ample stood d stands.
           let p = c.args.publisher.now in
           let room = leaves_room (accepted_of s.new.listener.gate s.new.listener.unsent) in
-          outcomes_as ample _ _ (sym c.publish.ensures.same) (HasAccepted p.gate p.unsent s.new.listener.gate s.new.listener.unsent)
-          (HasAccepted p.gate p.unsent c.publish.new.self.gate c.publish.new.self.unsent) (λ commands is. c.publish.ensures.same ∙ is)
+          outcomes_as ample _ _ (sym c.publish.ensures.same) (λ commands. HasAccepted p.gate p.unsent s.new.listener.gate s.new.listener.unsent commands
+          × HasSentOn p.writers p.unsent s.new.listener.writers s.new.listener.unsent commands)
+          (HasAccepted p.gate p.unsent c.publish.new.self.gate c.publish.new.self.unsent) (λ commands is. c.publish.ensures.same ∙ is.0)
           _ d _ _ _ _ _ _ _ (e.outcome (ample && room) (ample_for ample room _ _ stood) d stands);
       limit = e.limit;
       cause = e.cause;

@@ -12,3 +12,6 @@ returns-clause-stepped g c =
     stepped c.saturating_add-served.result c.saturating_add-served.ensures t.universe
     (longest_begins c.args.tap.now.told.seen c.args.tap.now.told.learnt (newest c.take-stamp.new.self.told) t.seen t.heard)
     (taken _ _ t.seen t.reading) c.put_newest.ensures
+
+pub returns-clause-looked : goal.returns-clause-looked
+returns-clause-looked g c = (taken _ _ c.take-stamp.ensures.seen c.take-stamp.ensures.reading).looked
