@@ -1,5 +1,5 @@
 -- Places that each have something.
-use Rattle.std.specs.Prelude.{List, [], ◌∷◌, IfSome, IsSome}
+use Rattle.std.specs.Prelude.{ℕ, ◌+◌, List, [], ◌∷◌, IfSome, IsSome}
 use Rattle.std.specs.declared.option.Option.{Option}
 
 -- each place has a source or a sink
@@ -11,3 +11,8 @@ AreFilled (held ∷ places) = IsSome held × AreFilled places
 abbrev pub OfEachPlace : {A : Type 0} → List (Option A) → (A → Type 0) → Type 0
 OfEachPlace [] P = Unit {0}
 OfEachPlace (held ∷ places) P = IfSome held P × OfEachPlace places P
+
+-- the same of each and the number of its place, where the first of these places has this number
+abbrev pub OfEachNumbered : {A : Type 0} → ℕ → List (Option A) → (ℕ → A → Type 0) → Type 0
+OfEachNumbered number [] P = Unit {0}
+OfEachNumbered number (held ∷ places) P = IfSome held (P number) × OfEachNumbered (number + 1) places P

@@ -90,6 +90,9 @@ pub fn desk_in<H: Heap, S: Source, K: Sink>(
     // Where the words' heap refused some, Memory is told and nothing was asked of the heap, read or written.
     ensures words_kept { ReadsWordsOnce words_heap.old words_heap.new ((heap.new ≡ heap.old) × ((input.new ≡ input.old)
         × (output.new ≡ output.old))) result }
+
+    // With Usage nothing was asked of the heap.
+    ensures usage { result ≡ Status.Usage → heap.new ≡ heap.old }
     ensures dash { list_any begins_with_dash (map string_bytes words.now) ≡ true → result ≡ Status.Usage }
     ensures unread { (cues : ℕ) → job_of (map string_bytes words.now) ≡ Some (Make cues) → input.new ≡ input.old }
     ensures later { H.refusals heap.old ≤ H.refusals heap.new }

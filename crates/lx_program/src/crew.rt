@@ -122,6 +122,9 @@ pub fn desk_crew_in<
     // Where the words' heap refused some, Memory is told and nothing was asked of the others, read or written.
     ensures words_kept { ReadsWordsOnce words_heap.old words_heap.new ((heap.new ≡ heap.old) × ((queues.new ≡ queues.old)
         × ((input.new ≡ input.old) × ((output.new ≡ output.old) × (operators.new ≡ operators.old))))) result }
+
+    // With Usage nothing was asked of the heap or the queue's.
+    ensures usage { result ≡ Status.Usage → (heap.new ≡ heap.old) × (queues.new ≡ queues.old) }
     ensures cause { HasCrewCause S.Source result (I.faults input.old) (I.faults input.new) (K.faults output.old) (K.faults output.new)
         (in_use (job_of (map string_bytes words.now))) operators.old operators.new }
     ensures dash { list_any begins_with_dash (map string_bytes words.now) ≡ true → result ≡ Status.Usage }

@@ -132,6 +132,9 @@ pub fn desk_live_in<
     // Where the words' heap refused some, Memory is told and nothing was asked of the others, read or written.
     ensures words_kept { ReadsWordsOnce words_heap.old words_heap.new ((heap.new ≡ heap.old) × ((writers.new ≡ writers.old)
         × ((input.new ≡ input.old) × ((output.new ≡ output.old) × (outlets.new ≡ outlets.old))))) result }
+
+    // With Usage nothing was asked of the heap or the writer's.
+    ensures usage { result ≡ Status.Usage → (heap.new ≡ heap.old) × (writers.new ≡ writers.old) }
     ensures later { H.refusals heap.old ≤ H.refusals heap.new }
     ensures writers_later { writers.old ≤ writers.new }
     ensures words_later { words_heap.old ≤ words_heap.new }

@@ -1,15 +1,16 @@
 //! The outlets of the program's live runs: a file for each universe.
 
-ghost use Rattle.std.specs.Prelude.{◌≡◌, ◌≤◌, [], length, IfOk, IfSome, None, IsSome};
+ghost use Rattle.std.specs.Prelude.{◌≡◌, ◌≤◌, ◌↔◌, [], length, IfOk, IfSome, None, IsSome};
+ghost use Rattle.std.specs.IoError.{error_kind};
 ghost use Rattle.lx_io.specs.Causes.{Rose};
 ghost use Rattle.lx_base.specs.declared.TheConstants.{UNIVERSES};
-ghost use Rattle.lx_program.specs.Places.{AreFilled, OfEachPlace};
+ghost use Rattle.lx_program.specs.Places.{AreFilled, OfEachNumbered, OfEachPlace};
 
 use lx_base::UNIVERSES;
 use lx_io::{Sink, SinkFault};
 use std::alloc::Global;
 use std::fs::File;
-use std::io::{BufWriter, Write};
+use std::io::{BufWriter, ErrorKind, Write};
 use std::rt::Files;
 use std::{fs, io};
 
@@ -36,6 +37,7 @@ impl<'r, R: Files<File = File>> UniverseFile<'r, R> {
     pub fn new(rt: &'r R, alloc: Global, universe: u8) -> UniverseFile<'r, R>
         ensures faults { ⟦<UniverseFile<'r, R> as Sink>⟧.faults result ≡ 0 }
         ensures wants { ⟦<UniverseFile<'r, R> as Sink>⟧.wants result ≡ 0 }
+        ensures universe { result.universe ≡ universe }
     {
         UniverseFile {
             rt,
@@ -90,8 +92,9 @@ impl<'r, R: Files<File = File>> UniverseFile<'r, R> {
         ensures wants_later { self.old.wants ≤ self.new.wants }
         ensures failed { result ≡ SinkFault.Failed → Rose self.old.faults self.new.faults }
         ensures memory { result ≡ SinkFault.Memory → Rose self.old.wants self.new.wants }
+        ensures kind { (result ≡ SinkFault.Memory) ↔ (error_kind error.now ≡ ErrorKind.OutOfMemory) }
     {
-        if error.kind() == io::ErrorKind::OutOfMemory {
+        if error.kind() == ErrorKind::OutOfMemory {
             self.wants = self.wants.saturating_add(1);
             return SinkFault::Memory;
         }
@@ -129,12 +132,13 @@ impl<R: Files<File = File>> Sink for UniverseFile<'_, R> {
     }
 }
 
-/// The files of all universes. None has told a fault.
+/// The files of all universes, each at its place. None has told a fault.
 pub fn files<R: Files<File = File>>(rt: &R, alloc: Global) -> [Option<UniverseFile<'_, R>>; OUTLETS]
     ensures count { length result ≡ UNIVERSES }
     ensures full { AreFilled result }
     ensures faults { OfEachPlace result (λ outlet. outlet.faults ≡ 0) }
     ensures wants { OfEachPlace result (λ outlet. outlet.wants ≡ 0) }
+    ensures place { OfEachNumbered 1 result (λ universe outlet. outlet.universe ≡ universe) }
 {
     [
         file(rt, alloc, 1),
@@ -177,6 +181,7 @@ fn file<R: Files<File = File>>(rt: &R, alloc: Global, universe: u8) -> Option<Un
     ensures some { IsSome result }
     ensures faults { IfSome result (λ outlet. outlet.faults ≡ 0) }
     ensures wants { IfSome result (λ outlet. outlet.wants ≡ 0) }
+    ensures universe { IfSome result (λ outlet. outlet.universe ≡ universe) }
 {
     Some(UniverseFile::new(rt, alloc, universe))
 }

@@ -6,7 +6,7 @@ pub use Rattle.std.proofs.Common.{map, max, nat_le, nat_lt, None, not, Ok, Optio
 pub use Rattle.std.proofs.Common.{subst, suc, sym, take, true, unwrap_or, zero}
 pub use Rattle.lx_base.specs.declared.TheConstants.{CHANNELS, CUE_MAX, CUE_UNIT, CUES, DEFAULT_CHANNELS, DEFAULT_TIME, DIMMERS, GROUPS, INPUT_BYTES}
 pub use Rattle.lx_base.specs.declared.TheConstants.{LABEL_BYTES, LINE_BYTES, PARTS, SUBS, TIME_MAX}
-pub use Rattle.lx_io.specs.Memory.{PlainBytes, PlainStore}
+pub use Rattle.lx_io.specs.Memory.{PlainBytes}
 pub use Rattle.lx_spec.proofs.Comparisons.{eq_above, eq_other, eq_true, lt_false, lt_true}
 pub use Rattle.lx_spec.proofs.Lists.{all_append, each, filter_all, find_none, kept_by, map_reversed, passes}
 pub use Rattle.lx_spec.specs.CutInput.{first_lines}

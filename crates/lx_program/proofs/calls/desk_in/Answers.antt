@@ -1,4 +1,4 @@
-use Rattle.lx_program.proofs.Imports.{◌≡◌, map, string_bytes, refl, inl, true, false, Option, Some, None, IfSome, Job, job_of, unwritten}
+use Rattle.lx_program.proofs.Imports.{◌≡◌, map, string_bytes, refl, inl, true, false, Option, Some, None, IfSome, Job, Script, Crew, Live, job_of, unwritten}
 use Rattle.std.proofs.Common.{◌⊎◌, inr}
 use Rattle.std.proofs.lemmas.Option.{IfSome_then}
 use Rattle.lx_desk.specs.Endings.{AnswersJob, AnswersWords, at_once}
@@ -23,6 +23,12 @@ unread job input output = record {
 as_words : {I O : Type 0} (job : Job) {s : Status} {input input' : I} {output output' : O} → AnswersJob job s input input' output output'
     → AnswersWords (Some job) s input input' output output'
 as_words job w = record { at = IfSome_then (at_once (Some job)) w.at (λ answer a. (inl a.0, a.1)); only = w.only }
+
+-- no job is answered as words that name none
+never_usage : {P : Type 0} (job : Job) (s : Status) → s ≡ status.Usage → at_once (Some job) ≡ Some s → P
+never_usage (Script (Live universes) form) s is told = absurd cc
+never_usage (Crew operators form) s is told = absurd cc
+never_usage other s is told = absurd cc
 
 pub returns-in-Ok-clause-words : goal.returns-in-Ok-clause-words
 returns-in-Ok-clause-words g c = rw c.in-Ok.ensures.job (as_words _ c.run_job_in.ensures.answered)
@@ -68,3 +74,6 @@ returns-in-Err-Usage-clause-words_kept g c = inl (c.in-Err-Usage.ensures.cause.o
 
 pub returns-in-Err-Memory-clause-words_kept : goal.returns-in-Err-Memory-clause-words_kept
 returns-in-Err-Memory-clause-words_kept g c = inr (refl, (refl, (refl, refl)))
+
+pub returns-in-Ok-clause-usage : goal.returns-in-Ok-clause-usage
+returns-in-Ok-clause-usage g c = λ is. never_usage _ _ is (c.run_job_in.ensures.answered.only (inl is))

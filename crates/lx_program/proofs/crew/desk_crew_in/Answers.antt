@@ -58,3 +58,6 @@ returns-in-Err-Usage-clause-words_kept g c = inl (c.in-Err-Usage.ensures.cause.o
 
 pub returns-in-Err-Memory-clause-words_kept : goal.returns-in-Err-Memory-clause-words_kept
 returns-in-Err-Memory-clause-words_kept g c = inr (refl, (refl, (refl, (refl, (refl, refl)))))
+
+pub returns-in-Ok-clause-usage : goal.returns-in-Ok-clause-usage
+returns-in-Ok-clause-usage g c = λ is. absurd (c.run_crew_in.ensures.words.0 is)

@@ -53,3 +53,6 @@ returns-in-Ok-clause-ended g c = λ ample stood sent. rw c.in-Ok.ensures.run (c.
 
 pub returns-in-Ok-clause-order : goal.returns-in-Ok-clause-order
 returns-in-Ok-clause-order g c = λ ample stood sent. rw c.in-Ok.ensures.run (c.run_live_in.ensures.order ample stood sent)
+
+pub returns-in-Ok-clause-usage : goal.returns-in-Ok-clause-usage
+returns-in-Ok-clause-usage g c = λ is. absurd (c.run_live_in.ensures.outlets.0 is)
