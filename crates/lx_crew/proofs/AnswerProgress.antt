@@ -6,13 +6,13 @@ use Rattle.lx_crew.proofs.Imports.{CrewEntry, op_text, named, after_entry, crew_
 use Rattle.lx_crew.proofs.Imports.{DeskState, begun, IsAcceptedEdit, StandsFor, Tally, extends_line, Message, Line, LongLine, text_in, long_line}
 use Rattle.lx_crew.proofs.Imports.{named_line, entries_of, said, NamedAnswer, AnswersNamed, IsDoneWithEntries, AnsweredAll, AnsweredPart, HasAnswered}
 use Rattle.lx_crew.proofs.Imports.{ToldBySink, true, HasStood, MayFailUnless, spared, AppendsAtLeast, crew_session, all_but_last}
-use Rattle.lx_crew.proofs.Imports.{text_to_last_name, HasStopped, ◌⊎◌}
+use Rattle.lx_crew.proofs.Imports.{text_to_last_name, HasStopped, HasSinkCause, NoneFailed, WroteUnfailed, ◌⊎◌}
 use Rattle.std.specs.Result.{result_err}
 use Rattle.std.proofs.KnownBytes.{Appends-nil, Appends-trans, Appends-kept}
 use Rattle.std.proofs.lemmas.Grind.{flat_map-append}
 use Rattle.lx_crew.proofs.Lists.{long_means}
 use Rattle.lx_session.proofs.Fronts.{front_more, front_whole, front_then, at_least_then}
-use Rattle.lx_crew.proofs.LastEntries.{at_least_first, names_written, session_before, text_before}
+use Rattle.lx_crew.proofs.LastEntries.{at_least, at_least_first, names_written, session_before, text_before}
 use Rattle.lx_session.specs.LineAnswer.{FromDesk}
 use Rattle.lx_session.specs.LineReply.{counts_in}
 use Rattle.lx_session.specs.LineState.{meaning_of}
@@ -49,38 +49,58 @@ said_more popped e more is =
     flat_map-append (λ (x : Message). entries_of x.place x.number x.sent) popped (e ∷ [])
     ∙ ap (λ (l : List CrewEntry). said popped ++ l) (append-nil (entries_of e.place e.number e.sent) ∙ is)
 
-pub answered_none : (ample : Bool) (d : Desk) (h : Option (List ℕ)) (console : Kept) (tally : Tally) → StandsFor d console
-    → counts_in tally ≡ record { ok = 0; refused = 0; bad = 0 } → AnsweredAll ample d [] h h console tally
-answered_none ample d h console tally stands counts = record {
+-- none failed in two steps, one after the other
+none_failed_then : {K : Type 0} (told : ToldBySink K) {a b c : K} → NoneFailed told a b → NoneFailed told b c → NoneFailed told a c
+none_failed_then told p q = (q.0 ∙ p.0, q.1 ∙ p.1)
+
+pub answered_none : {K : Type 0} (ample : Bool) (told : ToldBySink K) (d : Desk) (sink : K) (console : Kept) (tally : Tally)
+    → StandsFor d console → counts_in tally ≡ record { ok = 0; refused = 0; bad = 0 } → AnsweredAll ample told d [] sink sink console tally
+answered_none ample told d sink console tally stands counts = record {
   failures = [];
   now = begin_at (begun d);
   done = record { each = refl; is = refl; allows = tt };
-  text = Appends-nil h;
+  text = Appends-nil (told.holds sink);
+  none_failed = (refl, refl);
   counts = sym counts;
   stands = stands;
 }
 
 -- all of what was popped is answered, up to a fault of the output
-all_part : {ample : Bool} {d : Desk} {popped : List Message} {start h : Option (List ℕ)} {console : Kept} {failures : List (Option ℕ)}
-    {now : Session DeskState} → IsDoneWithEntries ample d (said popped) failures now → AppendsFront start h now.text
-    → AppendsAtLeast start h (crew_text d (all_but_last (said popped)) failures) → HasStopped d (said popped) failures start h console
-    → AnsweredPart ample d popped start h console
-all_part {popped = popped} {start} {h} {failures = failures} done text earlier stopped = record {
+all_part : {K : Type 0} {ample : Bool} {told : ToldBySink K} {d : Desk} {popped : List Message} {start sink : K} {console : Kept}
+    {failures : List (Option ℕ)} {now : Session DeskState} → IsDoneWithEntries ample d (said popped) failures now
+    → AppendsFront (told.holds start) (told.holds sink) now.text
+    → AppendsAtLeast (told.holds start) (told.holds sink) (crew_text d (all_but_last (said popped)) failures)
+    → HasStopped told d (said popped) failures start sink console → AnsweredPart ample told d popped start sink console
+all_part {told = told} {popped = popped} {start} {sink} {failures = failures} done text earlier stopped = record {
   first = popped;
   rest = [];
   are = sym (append-nil popped);
   failures = failures;
   allows = done.allows;
-  text = subst (λ (s : Session DeskState). AppendsFront start h s.text) (sym done.is) text;
+  text = subst (λ (s : Session DeskState). AppendsFront (told.holds start) (told.holds sink) s.text) (sym done.is) text;
   earlier = earlier;
   stopped = stopped;
 }
 
+wrote_unfailed : {K : Type 0} (told : ToldBySink K) (start before : K) (text : List ℕ) → Appends (told.holds start) (told.holds before) text
+    → NoneFailed told start before → WroteUnfailed told start text
+wrote_unfailed told start before text p none = record {
+  before = before;
+  wrote = at_least (told.holds start) (told.holds before) text [] text (sym (append-nil text)) p;
+  none_failed = none;
+}
+
 -- One more entry.
-module _ {K : Type 0} {ample : Bool} {d : Desk} (told : ToldBySink K) (sink sink' : K) {popped : List Message} {start : Option (List ℕ)}
+module _ {K : Type 0} {ample : Bool} {d : Desk} (told : ToldBySink K) (sink sink' : K) {popped : List Message} {start : K}
     {console : Kept} (console' : Kept) {tally : Tally} (tally' : Tally) (entry : Message) {e : CrewEntry} (refusals refusals' : ℕ)
-    (stood : ample ≡ true → HasStood refusals refusals') (a : AnsweredAll ample d popped start (told.holds sink) console tally)
+    (stood : ample ≡ true → HasStood refusals refusals') (a : AnsweredAll ample told d popped start sink console tally)
     (is : entries_of entry.place entry.number entry.sent ≡ e ∷ []) where
+  abbrev h : Option (List ℕ)
+  h = told.holds start
+
+  abbrev h' : Option (List ℕ)
+  h' = told.holds sink'
+
   -- the session after it
   done_so : (failed : Option ℕ) (next : Session DeskState) → after_entry failed a.now e ≡ next
       → IfSome failed (λ attempt. MayFailUnless ample (IsAcceptedEdit a.now.state.desk (line_of e.line)))
@@ -88,13 +108,14 @@ module _ {K : Type 0} {ample : Bool} {d : Desk} (told : ToldBySink K) (sink sink
   done_so failed next goes may = subst (λ es. IsDoneWithEntries ample d es (a.failures ++ failed ∷ []) next)
       (sym (said_more popped entry (e ∷ []) is)) (done_more e failed a.done goes may)
 
-  -- a part of it was written: its line is done, and all of its name was written, or neither
+  -- a part of it was written: its line is done, and all of its name was written before a fault, or neither
   part_so : (failed : Option ℕ) (next : Session DeskState)
-      → IsDoneWithEntries ample d (said (popped ++ entry ∷ [])) (a.failures ++ failed ∷ []) next
-      → AppendsFront start (told.holds sink') next.text → AppendsAtLeast start (told.holds sink') a.now.text
-      → (AppendsAtLeast start (told.holds sink') (a.now.text ++ op_text e) × StandsFor next.state.desk console')
-      ⊎ (AppendsFront start (told.holds sink') (a.now.text ++ op_text e) × StandsFor a.now.state.desk console')
-      → AnsweredPart ample d (popped ++ entry ∷ []) start (told.holds sink') console'
+      → IsDoneWithEntries ample d (said (popped ++ entry ∷ [])) (a.failures ++ failed ∷ []) next → AppendsFront h h' next.text
+      → AppendsAtLeast h h' a.now.text
+      → (AppendsAtLeast h h' (a.now.text ++ op_text e)
+      × (WroteUnfailed told start (a.now.text ++ op_text e) × StandsFor next.state.desk console'))
+      ⊎ (AppendsFront h h' (a.now.text ++ op_text e) × (WroteUnfailed told start a.now.text × StandsFor a.now.state.desk console'))
+      → AnsweredPart ample told d (popped ++ entry ∷ []) start sink' console'
   part_so failed next done text earlier stopped =
       let fs = a.failures ++ failed ∷ [] in
       let all = said_more popped entry (e ∷ []) is in
@@ -102,14 +123,20 @@ module _ {K : Type 0} {ample : Bool} {d : Desk} (told : ToldBySink K) (sink sink
       sym (ap (λ es. crew_session d (all_but_last es) fs) all ∙ session_before (failed ∷ []) e a.done) in
       let name : a.now.text ++ op_text e ≡ text_to_last_name d (said (popped ++ entry ∷ [])) fs =
       sym (ap (λ es. text_to_last_name d es fs) all ∙ text_before (failed ∷ []) e a.done) in
-      all_part done text (subst (λ (s : Session DeskState). AppendsAtLeast start (told.holds sink') s.text) before earlier) (elim stopped [
+      all_part done text (subst (λ (s : Session DeskState). AppendsAtLeast h h' s.text) before earlier) (elim stopped [
         | inl whole ↦ inl (
-          subst (λ (v : List ℕ). AppendsAtLeast start (told.holds sink') v) name whole.0,
-          subst (λ (s : Session DeskState). StandsFor s.state.desk console') (sym done.is) whole.1,
+          subst (λ (v : List ℕ). AppendsAtLeast h h' v) name whole.0,
+          (
+            subst (λ (v : List ℕ). WroteUnfailed told start v) name whole.1.0,
+            subst (λ (s : Session DeskState). StandsFor s.state.desk console') (sym done.is) whole.1.1,
+          ),
         )
         | inr front ↦ inr (
-          subst (λ (v : List ℕ). AppendsFront start (told.holds sink') v) name front.0,
-          subst (λ (s : Session DeskState). StandsFor s.state.desk console') before front.1,
+          subst (λ (v : List ℕ). AppendsFront h h' v) name front.0,
+          (
+            subst (λ (s : Session DeskState). WroteUnfailed told start s.text) before front.1.0,
+            subst (λ (s : Session DeskState). StandsFor s.state.desk console') before front.1.1,
+          ),
         )
       ])
 
@@ -122,36 +149,41 @@ module _ {K : Type 0} {ample : Bool} {d : Desk} (told : ToldBySink K) (sink sink
         done_so w.failed w.next w.goes_on.is (spares ample w.failed (IsAcceptedEdit a.now.state.desk (line_of e.line))
         (λ sure. m.answer.none (record { admitted = refl; stood = stood sure })) w.goes_on.allowed)
 
-    name_whole : Appends start (told.holds m.between) (a.now.text ++ op_text e)
-    name_whole = Appends-trans start (told.holds sink) (told.holds m.between) a.now.text (op_text e) a.text m.named
+    name_whole : Appends h (told.holds m.between) (a.now.text ++ op_text e)
+    name_whole = Appends-trans h (told.holds sink) (told.holds m.between) a.now.text (op_text e) a.text m.named
+
+    name_unfailed : NoneFailed told start m.between
+    name_unfailed = none_failed_then told a.none_failed m.none_failed
 
   pub answered_by : (result : Result Bool SinkFault)
       → AnswersNamed refusals refusals' told sink sink' result a.now (op_text e) (line_of e.line) console' tally'
-      → HasAnswered ample d (popped ++ entry ∷ []) start (told.holds sink') console' tally' (result_err result)
+      → HasAnswered ample told d (popped ++ entry ∷ []) start sink' console' tally' (result_err result)
   answered_by (Ok b) (inl cut) = absurd (true≢false (sym cut.0))
   answered_by (Ok b) (inr m) =
       let w = m.answer.answer in record {
         failures = a.failures ++ w.failed ∷ [];
         now = w.next;
         done = line_done (Ok b) m;
-        text = rw w.text
-            (Appends-trans start (told.holds m.between) (told.holds sink') (a.now.text ++ op_text e) w.reply (name_whole (Ok b) m) w.puts.whole);
+        text = rw w.text (Appends-trans h (told.holds m.between) h' (a.now.text ++ op_text e) w.reply (name_whole (Ok b) m) w.puts.whole);
+        none_failed = none_failed_then told (name_unfailed (Ok b) m) w.puts.cause.kept;
         counts = w.counts;
         stands = w.stands;
       }
   answered_by (Err f) (inl cut) =
       let more = extends_line None (named a.now e) (line_of e.line) in
-      let front = front_then start (told.holds sink) (told.holds sink') a.now.text (op_text e) a.text cut.1 in
+      let front = front_then h (told.holds sink) h' a.now.text (op_text e) a.text cut.1 in
       part_so None (after_entry None a.now e) (done_so None (after_entry None a.now e) refl tt)
-      (front_more start (told.holds sink') (a.now.text ++ op_text e) more.more (after_entry None a.now e).text more.text front)
-      (at_least_then start (told.holds sink) (told.holds sink') a.now.text (op_text e) a.text cut.1) (inr (front, cut.2))
+      (front_more h h' (a.now.text ++ op_text e) more.more (after_entry None a.now e).text more.text front)
+      (at_least_then h (told.holds sink) h' a.now.text (op_text e) a.text cut.1)
+      (inr (front, (wrote_unfailed told start sink a.now.text a.text a.none_failed, cut.2)))
   answered_by (Err f) (inr m) =
       let w = m.answer.answer in
       let name = a.now.text ++ op_text e in
-      let whole = at_least_then start (told.holds m.between) (told.holds sink') name w.reply (name_whole (Err f) m) w.puts.part in
+      let whole = at_least_then h (told.holds m.between) h' name w.reply (name_whole (Err f) m) w.puts.part in
+      let unfailed = wrote_unfailed told start m.between name (name_whole (Err f) m) (name_unfailed (Err f) m) in
       part_so w.failed w.next (line_done (Err f) m)
-      (rw w.text (front_then start (told.holds m.between) (told.holds sink') name w.reply (name_whole (Err f) m) w.puts.part))
-      (at_least_first start (told.holds sink') a.now.text (op_text e) whole) (inl (whole, w.stands))
+      (rw w.text (front_then h (told.holds m.between) h' name w.reply (name_whole (Err f) m) w.puts.part))
+      (at_least_first h h' a.now.text (op_text e) whole) (inl (whole, (unfailed, w.stands)))
 
 -- An entry has a line, which is given or, being too long, isn't.
 pub record IsSaid (entry : Message) (given : Option (List ℕ)) : Type 0 where
@@ -176,15 +208,15 @@ said_long entry given is none = record {
 
 -- one more entry was answered, where the output had no fault before
 pub answered_entry : {K : Type 0} (ample : Bool) (refusals refusals' : ℕ) (told : ToldBySink K) (sink sink' : K)
-    {result : Result Bool SinkFault} (d : Desk) (popped : List Message) (start : Option (List ℕ)) (console console' : Kept)
+    {result : Result Bool SinkFault} (d : Desk) (popped : List Message) (start : K) (console console' : Kept)
     (tally tally' : Tally) {entry : Message} {given : Option (List ℕ)} {output output' : Option SinkFault} → IsSaid entry given
     → output ≡ None → output' ≡ result_err result → (ample ≡ true → HasStood refusals refusals')
     → FromDesk console tally (λ s. AnswersNamed refusals refusals' told sink sink' result s
     (op_text (named_line entry.place entry.number [])) (meaning_of given) console' tally')
-    → HasAnswered ample d popped start (told.holds sink) console tally output
-    → HasAnswered ample d (popped ++ entry ∷ []) start (told.holds sink') console' tally' output'
+    → HasAnswered ample told d popped start sink console tally output
+    → HasAnswered ample told d (popped ++ entry ∷ []) start sink' console' tally' output'
 answered_entry ample refusals refusals' told sink sink' {result} d popped start console console' tally tally' {entry} has none is stood done so_far =
-    let a : AnsweredAll ample d popped start (told.holds sink) console tally = rw none at so_far in
+    let a : AnsweredAll ample told d popped start sink console tally = rw none at so_far in
     rw is (answered_by told sink sink' console' tally' entry refusals refusals' stood a has.said result
     (rw has.means at (done a.now a.stands a.counts)))
 
@@ -194,29 +226,49 @@ none_is None e = refl
 none_is (Some fault) e = cc
 
 -- a flush, where the output had no fault before, leaves what is written
-pub answered_flush : {T : Type 0} (result : Result T SinkFault) (ample : Bool) (d : Desk) (popped : List Message)
-    (start h h' : Option (List ℕ)) (console : Kept) (tally : Tally) {output output' : Option SinkFault} → output ≡ None
-    → output' ≡ result_err result → Keeps h h' → HasAnswered ample d popped start h console tally output
-    → HasAnswered ample d popped start h' console tally output'
-answered_flush {T} result ample d popped start h h' console tally none is kept so_far =
-    let a : AnsweredAll ample d popped start h console tally = rw none at so_far in
-    let text = Appends-kept start h h' a.now.text a.text kept in
-    rw is (flushed result a text) where
-      flushed : (r : Result T SinkFault) (a : AnsweredAll ample d popped start h console tally) → Appends start h' a.now.text
-          → HasAnswered ample d popped start h' console tally (result_err r)
-      flushed (Ok x) a text = record { failures = a.failures; now = a.now; done = a.done; text = text; counts = a.counts; stands = a.stands }
-      flushed (Err f) a text =
-          let whole = subst (λ (s : Session DeskState). Appends start h' s.text) (sym a.done.is) text in
-          let names = names_written d (said popped) a.failures start h' whole in
-          all_part a.done (front_whole start h' a.now.text text) (at_least_first start h' _ _ names)
-          (inl (names, subst (λ (s : Session DeskState). StandsFor s.state.desk console) (sym a.done.is) a.stands))
+pub answered_flush : {K T : Type 0} (result : Result T SinkFault) (ample : Bool) (told : ToldBySink K) (d : Desk) (popped : List Message)
+    (start sink sink' : K) (console : Kept) (tally : Tally) {output output' : Option SinkFault} → output ≡ None
+    → output' ≡ result_err result → Keeps (told.holds sink) (told.holds sink') → HasSinkCause told sink sink' result
+    → HasAnswered ample told d popped start sink console tally output → HasAnswered ample told d popped start sink' console tally output'
+answered_flush {K} {T} result ample told d popped start sink sink' console tally none is kept cause so_far =
+    let a : AnsweredAll ample told d popped start sink console tally = rw none at so_far in
+    let h = told.holds start in
+    let h' = told.holds sink' in
+    let text : Appends h h' a.now.text = Appends-kept h (told.holds sink) h' a.now.text a.text kept in
+    rw is (flushed result a text cause) where
+      flushed : (r : Result T SinkFault) (a : AnsweredAll ample told d popped start sink console tally)
+          → Appends (told.holds start) (told.holds sink') a.now.text → HasSinkCause told sink sink' r
+          → HasAnswered ample told d popped start sink' console tally (result_err r)
+      flushed (Ok x) a text cause = record {
+        failures = a.failures;
+        now = a.now;
+        done = a.done;
+        text = text;
+        none_failed = none_failed_then told a.none_failed cause.kept;
+        counts = a.counts;
+        stands = a.stands;
+      }
+      flushed (Err f) a text cause =
+          let names = λ (now : K) (p : Appends (told.holds start) (told.holds now) a.now.text).
+          names_written d (said popped) a.failures (told.holds start) (told.holds now)
+          (subst (λ (s : Session DeskState). Appends (told.holds start) (told.holds now) s.text) (sym a.done.is) p) in
+          let written = names sink' text in
+          all_part a.done (front_whole (told.holds start) (told.holds sink') a.now.text text)
+          (at_least_first (told.holds start) (told.holds sink') _ _ written) (inl (
+            written,
+            (
+              record { before = sink; wrote = names sink a.text; none_failed = a.none_failed },
+              subst (λ (s : Session DeskState). StandsFor s.state.desk console) (sym a.done.is) a.stands,
+            ),
+          ))
 
 -- What comes after a fault of the output is thrown away.
-pub thrown_away : (ample : Bool) (d : Desk) (popped : List Message) (start h : Option (List ℕ)) (console : Kept) (tally : Tally)
-    (entry : Message) (output : Option SinkFault) → true ≡ is_some output → HasAnswered ample d popped start h console tally output
-    → HasAnswered ample d (popped ++ entry ∷ []) start h console tally output
-thrown_away ample d popped start h console tally entry None is a = absurd (true≢false is)
-thrown_away ample d popped start h console tally entry (Some fault) is a = record {
+pub thrown_away : {K : Type 0} (ample : Bool) (told : ToldBySink K) (d : Desk) (popped : List Message) (start sink : K) (console : Kept)
+    (tally : Tally) (entry : Message) (output : Option SinkFault) → true ≡ is_some output
+    → HasAnswered ample told d popped start sink console tally output
+    → HasAnswered ample told d (popped ++ entry ∷ []) start sink console tally output
+thrown_away ample told d popped start sink console tally entry None is a = absurd (true≢false is)
+thrown_away ample told d popped start sink console tally entry (Some fault) is a = record {
   first = a.first;
   rest = a.rest ++ entry ∷ [];
   are = ap (λ (l : List Message). l ++ entry ∷ []) a.are ∙ append_assoc a.first a.rest (entry ∷ []);

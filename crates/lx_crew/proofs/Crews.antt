@@ -3,7 +3,7 @@ use Rattle.lx_crew.proofs.Imports.{◌≡◌, ◌⊎◌, inl, inr, ℕ, zero, su
 use Rattle.lx_crew.proofs.Imports.{◌++◌, length, map, slice_get, refl, sym, ap, ◌∙◌, subst, add-one, arith, AllByRecursion, Appends, slice_get_within}
 use Rattle.lx_crew.proofs.Imports.{filter-append, Pass, SinkFault, AppendsFront, crew_session, Desk, Kept, Session, DeskState, StandsFor, Tally, Message}
 use Rattle.lx_crew.proofs.Imports.{OperatorFault, Operator, View, said, HasAnswered, of_place, is_last, has_last, EachAt, Retired, owned, engine_view, Learned}
-use Rattle.lx_crew.proofs.Imports.{ScriptHasEnded, last_entry, ToldBySink, ToldBySource, Bool, CrewEntry, AppendsAtLeast, HasStopped, begin_at, begun}
+use Rattle.lx_crew.proofs.Imports.{ScriptHasEnded, last_entry, ToldBySink, ToldBySource, Bool, CrewEntry, AppendsAtLeast, HasStopped, WroteUnfailed, begin_at, begun}
 use Rattle.lx_crew.specs.declared.fault.OperatorFault.TheVariants.{ReadFault, InputTooLong}
 use Rattle.lx_crew.specs.CrewOutcome.{ScriptIsBack, HasWrittenTranscript, HasCrewed}
 use Rattle.std.proofs.lemmas.Bool.{cases_lt}
@@ -73,25 +73,31 @@ module _ {S : Type 0} (told_in : ToldBySource S) (Its : Pass Message View → Ty
       [ inl within ↦ absurd (omega (arith, len, past, within)) | inr none ↦ refl ]
 
 -- what was done where the output had a fault, by other entries of the same session
-stopped_at : (d : Desk) (xs ys : List CrewEntry) (failures : List (Option ℕ)) (held held' : Option (List ℕ)) (console : Kept) → Alike xs ys
-    → HasStopped d xs failures held held' console → HasStopped d ys failures held held' console
-stopped_at d xs ys failures held held' console alike stopped = elim stopped [
+stopped_at : {K : Type 0} (told : ToldBySink K) (d : Desk) (xs ys : List CrewEntry) (failures : List (Option ℕ)) (sink sink' : K)
+    (console : Kept) → Alike xs ys → HasStopped told d xs failures sink sink' console → HasStopped told d ys failures sink sink' console
+stopped_at told d xs ys failures sink sink' console alike stopped = elim stopped [
   | inl done ↦ inl (
-    subst (λ (v : List ℕ). AppendsAtLeast held held' v) (same_name d failures xs ys alike) done.0,
-    subst (λ (s : Session DeskState). StandsFor s.state.desk console) (same_session d failures xs ys alike) done.1,
+    subst (λ (v : List ℕ). AppendsAtLeast (told.holds sink) (told.holds sink') v) (same_name d failures xs ys alike) done.0,
+    (
+      subst (λ (v : List ℕ). WroteUnfailed told sink v) (same_name d failures xs ys alike) done.1.0,
+      subst (λ (s : Session DeskState). StandsFor s.state.desk console) (same_session d failures xs ys alike) done.1.1,
+    ),
   )
   | inr cut ↦ inr (
-    subst (λ (v : List ℕ). AppendsFront held held' v) (same_name d failures xs ys alike) cut.0,
-    subst (λ (s : Session DeskState). StandsFor s.state.desk console) (same_before d failures xs ys alike) cut.1,
+    subst (λ (v : List ℕ). AppendsFront (told.holds sink) (told.holds sink') v) (same_name d failures xs ys alike) cut.0,
+    (
+      subst (λ (s : Session DeskState). WroteUnfailed told sink s.text) (same_before d failures xs ys alike) cut.1.0,
+      subst (λ (s : Session DeskState). StandsFor s.state.desk console) (same_before d failures xs ys alike) cut.1.1,
+    ),
   )
 ]
 
 -- The transcript was written, or a prefix of one.
-written : (ample : Bool) (d : Desk) (lines : ℕ → List (List ℕ)) (popped : List Message) (held held' : Option (List ℕ)) (console : Kept)
-    (tally : Tally) (output : Option SinkFault) → ((k : ℕ) → SentAt lines k (of_place k popped))
-    → HasAnswered ample d popped held held' console tally output
-    → HasWrittenTranscript ample d (by_number lines) held held' console tally output
-written ample d lines popped held held' console tally None sent a =
+written : {K : Type 0} (ample : Bool) (told : ToldBySink K) (d : Desk) (lines : ℕ → List (List ℕ)) (popped : List Message) (sink sink' : K)
+    (console : Kept) (tally : Tally) (output : Option SinkFault) → ((k : ℕ) → SentAt lines k (of_place k popped))
+    → HasAnswered ample told d popped sink sink' console tally output
+    → HasWrittenTranscript ample told d (by_number lines) sink sink' console tally output
+written ample told d lines popped sink sink' console tally None sent a =
     let alike = alike_said lines popped (all_true lines popped sent) in
     let same : a.now ≡ crew_session d (true_entries lines popped) a.failures =
     sym a.done.is ∙ same_session d a.failures (said popped) (true_entries lines popped) alike in record {
@@ -99,11 +105,13 @@ written ample d lines popped held held' console tally None sent a =
       merged = merged lines popped sent;
       failures = a.failures;
       allows = allows_alike ample a.failures (begin_at (begun d)) (said popped) (true_entries lines popped) alike a.done.allows;
-      text = subst (λ (s : Session DeskState). Appends held held' s.text) same a.text;
+      text = subst (λ (s : Session DeskState). Appends (told.holds sink) (told.holds sink') s.text) same a.text;
       counts = sym a.counts ∙ ap (λ (s : Session DeskState). s.counts) same;
       stands = subst (λ (s : Session DeskState). StandsFor s.state.desk console) same a.stands;
     }
-written ample d lines popped held held' console tally (Some fault) sent a =
+written ample told d lines popped sink sink' console tally (Some fault) sent a =
+    let h = told.holds sink in
+    let h' = told.holds sink' in
     let xs = said a.first in
     let ys = true_entries lines a.first in
     let alike = alike_said lines a.first
@@ -113,10 +121,10 @@ written ample d lines popped held held' console tally (Some fault) sent a =
         merged = merged_so_far lines popped a.first a.rest sent a.are;
         failures = a.failures;
         allows = allows_alike ample a.failures (begin_at (begun d)) xs ys alike a.allows;
-        text = subst (λ (s : Session DeskState). AppendsFront held held' s.text) (same_session d a.failures xs ys alike) a.text;
-        earlier = subst (λ (s : Session DeskState). AppendsAtLeast held held' s.text) (same_before d a.failures xs ys alike) a.earlier;
+        text = subst (λ (s : Session DeskState). AppendsFront h h' s.text) (same_session d a.failures xs ys alike) a.text;
+        earlier = subst (λ (s : Session DeskState). AppendsAtLeast h h' s.text) (same_before d a.failures xs ys alike) a.earlier;
       };
-      stopped = stopped_at d xs ys a.failures held held' console alike a.stopped;
+      stopped = stopped_at told d xs ys a.failures sink sink' console alike a.stopped;
     }
 
 pub crewed : {S K : Type 0} (ample : Bool) (told_in : ToldBySource S) (told_out : ToldBySink K) (Its : Pass Message View → Type 0) (d : Desk)
@@ -127,7 +135,7 @@ pub crewed : {S K : Type 0} (ample : Bool) (told_in : ToldBySource S) (told_out 
     → ((k : ℕ) → k < n → has_last (of_place k popped) ≡ true) → length places' ≡ length places
     → EachAt (λ k y. slice_get places' k ≡ Some (Some y.source)) ys → EachAt (λ k y. slice_get told k ≡ Some y.fault) ys
     → ((place : ℕ) (fault : OperatorFault) → slice_get told place ≡ Some (Some fault) → place < length places)
-    → HasAnswered ample d popped (told_out.holds sink) (told_out.holds sink') console tally output
+    → HasAnswered ample told_out d popped sink sink' console tally output
     → HasCrewed ample told_in told_out d places places' sink sink' console tally output told
 crewed ample told_in told_out Its d places places' sink sink' console tally output told ys popped items n h len all learned ended same back
     says others answered =
@@ -140,6 +148,6 @@ crewed ample told_in told_out Its d places places' sink sink' console tally outp
       none = refl;
       no_more = no_more told_in Its places ys h count;
       others = others;
-      written = written ample d lines popped (told_out.holds sink) (told_out.holds sink') console tally output
+      written = written ample told_out d lines popped sink sink' console tally output
           (λ k. sent_at told_in Its places ys h popped items n len learned ended k (cases_lt k (length ys))) answered;
     }

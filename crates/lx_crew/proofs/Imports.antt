@@ -14,7 +14,7 @@ pub use Rattle.lx_crew.specs.Entries.{has_last, HasText, HaveLines, is_last, Num
 pub use Rattle.lx_crew.specs.OperatorWorks.{HasRunOperator, HasSentNothing, Hired, owned, Retired, Works}
 pub use Rattle.lx_crew.specs.Rule.{AddsEntry, engine_view, FitsEngine, FitsOperator, FitsPass, KeepsOrder, Learned, operator_view, spent_view, Takes}
 pub use Rattle.lx_crew.specs.Scripts.{AreLines, ScriptHasEnded}
-pub use Rattle.lx_crew.specs.Transcripts.{AppendsAtLeast, all_but_last, CrewAllowsBy, HasStopped, last_alone, text_to_last_name}
+pub use Rattle.lx_crew.specs.Transcripts.{AppendsAtLeast, all_but_last, CrewAllowsBy, HasStopped, last_alone, NoneFailed, text_to_last_name, WroteUnfailed}
 pub use Rattle.lx_crew.specs.SentLines.{follows, HasSentLines, last_entry, TookNext}
 pub use Rattle.lx_crew.specs.declared.entry.Message.{Message}
 pub use Rattle.lx_crew.specs.declared.entry.Sent.{Sent}
@@ -23,7 +23,7 @@ pub use Rattle.lx_crew.specs.declared.fault.OperatorFault.{OperatorFault}
 pub use Rattle.lx_crew.specs.declared.operator.Operator.{Operator}
 pub use Rattle.lx_crew.specs.declared.rule.View.{View}
 pub use Rattle.lx_io.specs.Causes.{Rose}
-pub use Rattle.lx_io.specs.Puts.{AppendsFront}
+pub use Rattle.lx_io.specs.Puts.{AppendsFront, HasSinkCause}
 pub use Rattle.lx_io.specs.declared.sink.SinkFault.{SinkFault}
 pub use Rattle.lx_io.specs.Told.{ToldBySink, ToldBySource}
 pub use Rattle.lx_lex.proofs.HandingOut.{handed_none, handed_one, handed_then}

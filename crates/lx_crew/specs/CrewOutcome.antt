@@ -19,10 +19,11 @@ pub record ScriptIsBack {S : Type 0} (told_in : ToldBySource S) (places : List (
   pub ended : ScriptHasEnded told_in start source fault lines
 
 -- the transcript, or a prefix of one where the output had a fault, and then no line behind it is done
-abbrev pub HasWrittenTranscript : (ample : Bool) → Desk → (ℕ → List (List ℕ)) → (held held' : Option (List ℕ)) → Kept → Tally
+abbrev pub HasWrittenTranscript : {K : Type 0} → (ample : Bool) → ToldBySink K → Desk → (ℕ → List (List ℕ)) → (sink sink' : K) → Kept → Tally
     → Option SinkFault → Type 0
-HasWrittenTranscript ample d lines held held' console tally None = WholeTranscript ample d lines held held' console tally
-HasWrittenTranscript ample d lines held held' console tally (Some fault) = StoppedTranscript ample d lines held held' console
+HasWrittenTranscript ample told d lines sink sink' console tally None =
+    WholeTranscript ample d lines (told.holds sink) (told.holds sink') console tally
+HasWrittenTranscript ample told d lines sink sink' console tally (Some fault) = StoppedTranscript ample told d lines sink sink' console
 
 -- Each place has its source again. `lines` are each operator's, which are numbered from 1; past them there are none, and no fault is told.
 -- Where memory was ample no attempt failed.
@@ -36,4 +37,4 @@ pub record HasCrewed {S K : Type 0} (ample : Bool) (told_in : ToldBySource S) (t
   pub none : lines 0 ≡ []
   pub no_more : (operator : ℕ) → length places < operator → lines operator ≡ []
   pub others : (place : ℕ) (fault : OperatorFault) → slice_get told place ≡ Some (Some fault) → place < length places
-  pub written : HasWrittenTranscript ample d lines (told_out.holds sink) (told_out.holds sink') console tally output
+  pub written : HasWrittenTranscript ample told_out d lines sink sink' console tally output

@@ -25,7 +25,7 @@ use Rattle.lx_crew.specs.declared.entry.Sent.TheVariants.{Line, LongLine, End, R
 use Rattle.lx_crew.specs.declared.rule.View.{View}
 use Rattle.lx_crew.specs.Entries.{text_in, of_place, is_last, has_last}
 use Rattle.lx_crew.specs.Rule.{engine_view, Takes}
-use Rattle.lx_crew.specs.Transcripts.{AppendsAtLeast, CrewAllowsBy, HasStopped, all_but_last}
+use Rattle.lx_crew.specs.Transcripts.{AppendsAtLeast, CrewAllowsBy, HasStopped, NoneFailed, all_but_last}
 use Rattle.std.specs.Prelude.{slice_get}
 
 -- Stands for the text of any line of more than 4,096 bytes: each is bad.
@@ -47,11 +47,12 @@ entries_of place number InputTooLong = []
 abbrev pub said : List Message → List CrewEntry
 said entries = flat_map (λ (e : Message). entries_of e.place e.number e.sent) entries
 
--- The name of a line was written, and the line done and answered. Where the heap refused nothing no attempt failed.
+-- The name of a line was written without a fault, and the line done and answered. Where the heap refused nothing no attempt failed.
 pub record NamedAnswer {K : Type 0} (refusals refusals' : ℕ) (told : ToldBySink K) (sink sink' : K) (result : Result Bool SinkFault)
     (s : Session DeskState) (name : List ℕ) (meaning : Option Meant) (console : Kept) (tally : Tally) : Type 0 where
   pub between : K
   pub named : Appends (told.holds sink) (told.holds between) name
+  pub none_failed : NoneFailed told sink between
   pub answer : SparedAnswer (IsAmple true refusals refusals') true (λ commands. Unit {0}) told between sink' result (with_text s name) meaning
       console tally
 
@@ -69,32 +70,35 @@ pub record IsDoneWithEntries (ample : Bool) (d : Desk) (entries : List CrewEntry
   pub is : crew_session d entries failures ≡ now
   pub allows : CrewAllowsBy ample d entries failures
 
--- What was popped is answered, and its whole transcript was written.
-pub record AnsweredAll (ample : Bool) (d : Desk) (popped : List Message) (held held' : Option (List ℕ)) (console : Kept) (tally : Tally)
-    : Type 0 where
+-- What was popped is answered, its whole transcript was written, and no write and no flush failed.
+pub record AnsweredAll {K : Type 0} (ample : Bool) (told : ToldBySink K) (d : Desk) (popped : List Message) (sink sink' : K) (console : Kept)
+    (tally : Tally) : Type 0 where
   pub failures : List (Option ℕ)
   pub now : Session DeskState
   pub done : IsDoneWithEntries ample d (said popped) failures now
-  pub text : Appends held held' now.text
+  pub text : Appends (told.holds sink) (told.holds sink') now.text
+  pub none_failed : NoneFailed told sink sink'
   pub counts : now.counts ≡ counts_in tally
   pub stands : StandsFor now.state.desk console
 
 -- The first of what was popped is answered, up to a fault of the output: a prefix of its transcript was written, and of all of it but the
 -- last it was written whole. No line of the rest is done.
-pub record AnsweredPart (ample : Bool) (d : Desk) (popped : List Message) (held held' : Option (List ℕ)) (console : Kept) : Type 0 where
+pub record AnsweredPart {K : Type 0} (ample : Bool) (told : ToldBySink K) (d : Desk) (popped : List Message) (sink sink' : K) (console : Kept)
+    : Type 0 where
   pub first : List Message
   pub rest : List Message
   pub are : popped ≡ first ++ rest
   pub failures : List (Option ℕ)
   pub allows : CrewAllowsBy ample d (said first) failures
-  pub text : AppendsFront held held' (crew_text d (said first) failures)
-  pub earlier : AppendsAtLeast held held' (crew_text d (all_but_last (said first)) failures)
-  pub stopped : HasStopped d (said first) failures held held' console
+  pub text : AppendsFront (told.holds sink) (told.holds sink') (crew_text d (said first) failures)
+  pub earlier : AppendsAtLeast (told.holds sink) (told.holds sink') (crew_text d (all_but_last (said first)) failures)
+  pub stopped : HasStopped told d (said first) failures sink sink' console
 
 -- by the fault of the output
-abbrev pub HasAnswered : (ample : Bool) → Desk → List Message → (held held' : Option (List ℕ)) → Kept → Tally → Option SinkFault → Type 0
-HasAnswered ample d popped held held' console tally None = AnsweredAll ample d popped held held' console tally
-HasAnswered ample d popped held held' console tally (Some fault) = AnsweredPart ample d popped held held' console
+abbrev pub HasAnswered : {K : Type 0} → (ample : Bool) → ToldBySink K → Desk → List Message → (sink sink' : K) → Kept → Tally
+    → Option SinkFault → Type 0
+HasAnswered ample told d popped sink sink' console tally None = AnsweredAll ample told d popped sink sink' console tally
+HasAnswered ample told d popped sink sink' console tally (Some fault) = AnsweredPart ample told d popped sink sink' console
 
 -- Neither count of the output has fallen, and a fault that is new comes only where its own count rose. Where there is none now, there was
 -- none before, and both counts stand as they were.
@@ -111,13 +115,14 @@ Marked e before after = (k : ℕ) → slice_get after k ≡ Some true → (slice
     ((e.place ≡ k) × (is_last e.sent ≡ true))
 
 -- one entry was popped and answered
-pub record NextEntry (refusals refusals' : ℕ) (v w : View) (held held' : Option (List ℕ)) (console console' : Kept) (tally tally' : Tally)
-    (output output' : Option SinkFault) (ended ended' : List Bool) : Type 0 where
+pub record NextEntry {K : Type 0} (refusals refusals' : ℕ) (told : ToldBySink K) (v w : View) (sink sink' : K) (console console' : Kept)
+    (tally tally' : Tally) (output output' : Option SinkFault) (ended ended' : List Bool) : Type 0 where
   pub entry : Message
   pub takes : Takes v entry w
   pub marked : Marked entry ended ended'
-  pub answered : (ample : Bool) → (ample ≡ true → HasStood refusals refusals') → (d : Desk) (popped : List Message) (start : Option (List ℕ))
-      → HasAnswered ample d popped start held console tally output → HasAnswered ample d (popped ++ entry ∷ []) start held' console' tally' output'
+  pub answered : (ample : Bool) → (ample ≡ true → HasStood refusals refusals') → (d : Desk) (popped : List Message) (start : K)
+      → HasAnswered ample told d popped start sink console tally output
+      → HasAnswered ample told d (popped ++ entry ∷ []) start sink' console' tally' output'
 
 -- The engine took entries to the last of each operator and answered them. Where the output had no fault it keeps nothing back.
 pub record HasServedEntries {K : Type 0} (refusals refusals' : ℕ) (told : ToldBySink K) (operators : ℕ) (v : View)
@@ -127,6 +132,6 @@ pub record HasServedEntries {K : Type 0} (refusals refusals' : ℕ) (told : Told
   pub ended : (k : ℕ) → k < operators → has_last (of_place k popped) ≡ true
   pub later : refusals ≤ refusals'
   pub answered : (ample : Bool) → (ample ≡ true → HasStood refusals refusals') → (d : Desk) → StandsFor d console
-      → HasAnswered ample d popped (told.holds sink) (told.holds sink') console' tally output
+      → HasAnswered ample told d popped sink sink' console' tally output
   pub cause : OutputCause told sink sink' None output
   pub handed_on : output ≡ None → told.back sink' ≡ []

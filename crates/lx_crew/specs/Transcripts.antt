@@ -2,6 +2,7 @@
 use Rattle.std.specs.Prelude.{◌≡◌, ◌⊎◌, ℕ, ◌-◌, Bool, List, ◌++◌, Option, length, take, drop, flat_map}
 use Rattle.std.specs.Io.KnownBytes.{Appends}
 use Rattle.lx_io.specs.Puts.{AppendsFront}
+use Rattle.lx_io.specs.Told.{ToldBySink}
 use Rattle.lx_spec.specs.CrewText.{CrewEntry, Merged, MergedSoFar, crew_answering, crew_session, crew_text, op_text}
 use Rattle.lx_spec.specs.Session.{AreAllowed, begin_at}
 use Rattle.lx_spec.specs.DeskSession.{begun}
@@ -48,23 +49,38 @@ pub record TranscriptPrefix (ample : Bool) (d : Desk) (lines : ℕ → List (Lis
 abbrev pub text_to_last_name : Desk → List CrewEntry → List (Option ℕ) → List ℕ
 text_to_last_name d entries failures = crew_text d (all_but_last entries) failures ++ flat_map op_text (last_alone entries)
 
--- The name of the last entry was written whole, and its line is done: the console stands for the desk after it.
-abbrev pub LastIsDone : Desk → List CrewEntry → List (Option ℕ) → (held held' : Option (List ℕ)) → Kept → Type 0
-LastIsDone d entries failures held held' console =
-    AppendsAtLeast held held' (text_to_last_name d entries failures) × StandsFor (crew_session d entries failures).state.desk console
+-- between these no write and no flush failed: both counts of the sink stand as they stood
+abbrev pub NoneFailed : {K : Type 0} → ToldBySink K → (old new : K) → Type 0
+NoneFailed told old new = (told.faults new ≡ told.faults old) × (told.wants new ≡ told.wants old)
 
--- No more than the name of the last entry was written, and its line isn't done: the console stands for the desk after those before it.
-abbrev pub LastIsNamed : Desk → List CrewEntry → List (Option ℕ) → (held held' : Option (List ℕ)) → Kept → Type 0
-LastIsNamed d entries failures held held' console =
-    AppendsFront held held' (text_to_last_name d entries failures) × StandsFor (crew_session d (all_but_last entries) failures).state.desk console
+-- This text was written, and maybe more, before any write or flush failed.
+pub record WroteUnfailed {K : Type 0} (told : ToldBySink K) (sink : K) (text : List ℕ) : Type 0 where
+  pub before : K
+  pub wrote : AppendsAtLeast (told.holds sink) (told.holds before) text
+  pub none_failed : NoneFailed told sink before
 
--- Which lines are done after a fault of the output: all of these entries, or all but the last, and no others.
-abbrev pub HasStopped : Desk → List CrewEntry → List (Option ℕ) → (held held' : Option (List ℕ)) → Kept → Type 0
-HasStopped d entries failures held held' console =
-    LastIsDone d entries failures held held' console ⊎ LastIsNamed d entries failures held held' console
+-- The name of the last entry was written whole before any write or flush failed, and its line is done: the console stands for the desk after it.
+abbrev pub LastIsDone : {K : Type 0} → ToldBySink K → Desk → List CrewEntry → List (Option ℕ) → (sink sink' : K) → Kept → Type 0
+LastIsDone told d entries failures sink sink' console =
+    AppendsAtLeast (told.holds sink) (told.holds sink') (text_to_last_name d entries failures)
+    × (WroteUnfailed told sink (text_to_last_name d entries failures) × StandsFor (crew_session d entries failures).state.desk console)
+
+-- No more than the name of the last entry was written, and its line isn't done: the console stands for the desk after those before it. Their
+-- text was written whole before any write or flush failed.
+abbrev pub LastIsNamed : {K : Type 0} → ToldBySink K → Desk → List CrewEntry → List (Option ℕ) → (sink sink' : K) → Kept → Type 0
+LastIsNamed told d entries failures sink sink' console =
+    AppendsFront (told.holds sink) (told.holds sink') (text_to_last_name d entries failures)
+    × (WroteUnfailed told sink (crew_text d (all_but_last entries) failures)
+    × StandsFor (crew_session d (all_but_last entries) failures).state.desk console)
+
+-- Which lines are done after a fault of the output: all of these entries, or all but the last, and no others. Before the fault all was
+-- written up to the name of the last that is done.
+abbrev pub HasStopped : {K : Type 0} → ToldBySink K → Desk → List CrewEntry → List (Option ℕ) → (sink sink' : K) → Kept → Type 0
+HasStopped told d entries failures sink sink' console =
+    LastIsDone told d entries failures sink sink' console ⊎ LastIsNamed told d entries failures sink sink' console
 
 -- A prefix of the transcript of first lines was written, and no line behind these is done.
-pub record StoppedTranscript (ample : Bool) (d : Desk) (lines : ℕ → List (List ℕ)) (held held' : Option (List ℕ)) (console : Kept)
-    : Type 0 where
-  pub prefix : TranscriptPrefix ample d lines held held'
-  pub stopped : HasStopped d prefix.entries prefix.failures held held' console
+pub record StoppedTranscript {K : Type 0} (ample : Bool) (told : ToldBySink K) (d : Desk) (lines : ℕ → List (List ℕ)) (sink sink' : K)
+    (console : Kept) : Type 0 where
+  pub prefix : TranscriptPrefix ample d lines (told.holds sink) (told.holds sink')
+  pub stopped : HasStopped told d prefix.entries prefix.failures sink sink' console

@@ -57,8 +57,8 @@ pub(crate) fn answer_entry<H: Heap, K: Sink>(
 )
     requires room { TallyHasRoom tally.old }
     ensures answered { (ample : Bool) → (ample ≡ true → HasStood (H.refusals heap.old) (H.refusals heap.new)) → (d : Desk)
-        (popped : List AnEntry) (start : _) → HasAnswered ample d popped start (K.holds sink.old) console.old tally.old output.old
-        → HasAnswered ample d (popped ++ entry.now ∷ []) start (K.holds sink.new) console.new tally.new output.new }
+        (popped : List AnEntry) (start : _) → HasAnswered ample K.Sink d popped start sink.old console.old tally.old output.old
+        → HasAnswered ample K.Sink d (popped ++ entry.now ∷ []) start sink.new console.new tally.new output.new }
     ensures cause { OutputCause K.Sink sink.old sink.new output.old output.new }
     ensures more { HasOneMore tally.old tally.new }
     ensures later { H.refusals heap.old ≤ H.refusals heap.new }
@@ -77,8 +77,8 @@ pub(crate) fn answer_entry<H: Heap, K: Sink>(
 /// Hands on what the output keeps back, unless it had a fault. Without one nothing is kept back any more.
 pub(crate) fn flush<K: Sink>(sink: &mut K, output: &mut Option<SinkFault>)
     ensures answered { (ample : Bool) (d : Desk) (popped : List AnEntry) (start : _) (console : _) (tally : _)
-        → HasAnswered ample d popped start (K.holds sink.old) console tally output.old
-        → HasAnswered ample d popped start (K.holds sink.new) console tally output.new }
+        → HasAnswered ample K.Sink d popped start sink.old console tally output.old
+        → HasAnswered ample K.Sink d popped start sink.new console tally output.new }
     ensures cause { OutputCause K.Sink sink.old sink.new output.old output.new }
     ensures handed_on { output.new ≡ None → K.back sink.new ≡ [] }
 {

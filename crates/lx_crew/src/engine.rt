@@ -139,8 +139,8 @@ fn take_one<H: Heap, K: Sink>(
     requires pops { (view pass.old).pops ≡ true }
     requires room { TallyHasRoom tally.old }
     ensures queue { IsSamePass pass.old pass.new }
-    ensures some { result ≡ true → NextEntry (H.refusals heap.old) (H.refusals heap.new) (view pass.old) (view pass.new) (K.holds sink.old)
-        (K.holds sink.new) console.old console.new tally.old tally.new output.old output.new ended.old ended.new }
+    ensures some { result ≡ true → NextEntry (H.refusals heap.old) (H.refusals heap.new) K.Sink (view pass.old) (view pass.new) sink.old
+        sink.new console.old console.new tally.old tally.new output.old output.new ended.old ended.new }
     ensures none { result ≡ false → (view pass.new ≡ view pass.old) × ((sink.new ≡ sink.old) × ((console.new ≡ console.old)
         × ((tally.new ≡ tally.old) × ((output.new ≡ output.old) × (ended.new ≡ ended.old))))) }
     ensures cause { OutputCause K.Sink sink.old sink.new output.old output.new }

@@ -5,7 +5,7 @@ use Rattle.lx_crew.proofs.answering.answer_entry.Goals.{in-Line, in-LongLine}
 
 pub returns-then-is_some-clause-answered : goal.returns-then-is_some-clause-answered
 returns-then-is_some-clause-answered g c = λ ample stood d popped start so_far.
-    thrown_away ample d popped start _ _ _ c.args.entry.now c.args.output.now c.if-is_some.ensures so_far
+    thrown_away ample g.K.Sink d popped start _ _ _ c.args.entry.now c.args.output.now c.if-is_some.ensures so_far
 
 pub returns-clause-answered : goal.returns-clause-answered
 returns-clause-answered g c =

@@ -9,5 +9,6 @@ returns-in-Ok-clause-answered g c = λ s stands counted.
     inr (record {
       between = c.put_name.new.sink;
       named = c.in-Ok.ensures.whole;
+      none_failed = c.in-Ok.ensures.cause.kept;
       answer = c.answer_in.ensures.answered (with_text s (op_text (named_line c.args.place c.args.number []))) stands counted;
     })

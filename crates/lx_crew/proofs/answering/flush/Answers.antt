@@ -4,5 +4,5 @@ use Rattle.lx_crew.proofs.answering.flush.Goals as goal
 
 pub returns-then-is_none-clause-answered : goal.returns-then-is_none-clause-answered
 returns-then-is_none-clause-answered g c = λ ample d popped start console tally so_far.
-    answered_flush c.flush.result ample d popped start _ _ console tally (none_is c.args.output.now (sym c.if-is_none.ensures))
-    c.err.ensures.value c.flush.ensures.holds so_far
+    answered_flush c.flush.result ample g.K.Sink d popped start _ _ console tally (none_is c.args.output.now (sym c.if-is_none.ensures))
+    c.err.ensures.value c.flush.ensures.holds c.flush.ensures.cause so_far

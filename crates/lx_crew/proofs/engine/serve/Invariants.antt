@@ -12,7 +12,7 @@ invariant-loop g l = record {
   ended : (k : ℕ) → slice_get l.ended k ≡ Some true → has_last (of_place k popped) ≡ true;
   later : g.H.Heap.refusals l.initial.heap ≤ g.H.Heap.refusals l.heap;
   answered : (ample : Bool) → (ample ≡ true → HasStood (g.H.Heap.refusals l.initial.heap) (g.H.Heap.refusals l.heap)) → (d : Desk)
-      → StandsFor d l.initial.console → HasAnswered ample d popped (g.K.Sink.holds l.initial.sink) (g.K.Sink.holds l.sink) l.console l.tally l.output;
+      → StandsFor d l.initial.console → HasAnswered ample g.K.Sink d popped l.initial.sink l.sink l.console l.tally l.output;
   cause : OutputCause g.K.Sink l.initial.sink l.sink None l.output;
   ok : l.tally.ok + l.iterator'.left ≤ 2 ^ 64 - 1;
   refused : l.tally.refused + l.iterator'.left ≤ 2 ^ 64 - 1;
