@@ -77,7 +77,7 @@ module _ {S K : Type 0} {ample : Bool} {told_in : ToldBySource S} {told_out : To
   transcript w = record { entries = w.entries; merged = w.merged; failures = w.failures; allows = w.allows; text = w.text }
 
   written : (o : Option SinkFault) (s : Status)
-      → HasWrittenTranscript ample (opened show) c.lines (told_out.holds sink) (told_out.holds sink') console tally o → TellsCrew o told s
+      → HasWrittenTranscript ample told_out (opened show) c.lines sink sink' console tally o → TellsCrew o told s
       → WritesLines ample s show c.lines told (told_out.holds sink) (told_out.holds sink')
   written None status.Ok w tells = (transcript w, tells)
   written None status.ReadFault w tells = (transcript w, tells)

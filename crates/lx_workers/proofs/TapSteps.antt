@@ -27,23 +27,23 @@ pub record HasTaken (before now : Told) : Type 0 where
       ⊎ ((now.misses ≡ one_more before.misses) × (now.reads ≡ before.reads))
 
 -- one more is a rise
-rose_by : {a b : ℕ} → b ≡ one_more a → Rose a b
-rose_by h = omega (arith, h)
+rose_by : (a b : ℕ) → b ≡ one_more a → Rose a b
+rose_by a b h = omega (arith, h)
 
 pub taken : (before now : Told) → IsPrefix before.seen (newest now) → HasReadOn before now ⊎ HasMissed before now → HasTaken before now
 taken before now p (inl h) = record {
   learnt = ap (λ (t : Told). t.learnt) h.rest;
-  reads = inr (rose_by h.rose);
+  reads = inr (rose_by before.reads now.reads h.rose);
   misses = inl (ap (λ (t : Told). t.misses) h.rest);
-  looked = inl (rose_by h.rose);
+  looked = inl (rose_by before.reads now.reads h.rose);
   seen = subst (λ (l : List Command). IsPrefix before.seen l) h.newest_is p;
   counted = inl (h.rose, ap (λ (t : Told). t.misses) h.rest);
 }
 taken before now p (inr h) = record {
   learnt = ap (λ (t : Told). t.learnt) h.rest;
   reads = inl (ap (λ (t : Told). t.reads) h.rest);
-  misses = inr (rose_by h.rose);
-  looked = inr (rose_by h.rose);
+  misses = inr (rose_by before.misses now.misses h.rose);
+  looked = inr (rose_by before.misses now.misses h.rose);
   seen = subst (λ (l : List Command). IsPrefix before.seen l) (sym (ap (λ (t : Told). t.seen) h.rest)) (prefix_self before.seen);
   counted = inr (h.rose, ap (λ (t : Told). t.reads) h.rest);
 }

@@ -74,11 +74,11 @@ leaves_both (command ∷ before) [] unsent unsent' unsent'' one two = two one
 leaves_both (command ∷ before) (next ∷ after) unsent unsent' unsent'' one two = two
 
 -- a count that stands at the end stood all along
-stood_first : {a b c : ℕ} → b ≤ c → HasStood a c → HasStood a b
-stood_first later stood = lt_of_le_of_lt later stood
+stood_first : (a b c : ℕ) → b ≤ c → HasStood a c → HasStood a b
+stood_first a b c later stood = lt_of_le_of_lt later stood
 
-stood_then : {a b c : ℕ} → a ≤ b → HasStood a c → HasStood b c
-stood_then {a} {b} later stood = lt_of_lt_of_le stood
+stood_then : (a b c : ℕ) → a ≤ b → HasStood a c → HasStood b c
+stood_then a b c later stood = lt_of_lt_of_le stood
     (le-min (le_trans (min-le_left (a + 1) (2 ^ 64 - 1)) ((add-le-add_iff_right 1).1 later)) (min-le_right (a + 1) (2 ^ 64 - 1)))
 
 pub sent_nothing : (refusals : ℕ) (unsent : List Command) → HasSentOn refusals unsent refusals unsent []
@@ -90,7 +90,8 @@ pub sent_both : (refusals : ℕ) (unsent : List Command) (refusals' : ℕ) (unse
     → HasSentOn refusals unsent refusals'' unsent'' (before ++ after)
 sent_both refusals unsent refusals' unsent' refusals'' unsent'' before after one two = record {
   later = le_trans one.later two.later;
-  sent = λ stood. leaves_both before after unsent unsent' unsent'' (one.sent (stood_first two.later stood)) (two.sent (stood_then one.later stood));
+  sent = λ stood. leaves_both before after unsent unsent' unsent'' (one.sent (stood_first refusals refusals' refusals'' two.later stood))
+      (two.sent (stood_then refusals refusals' refusals'' one.later stood));
 }
 
 -- A session was played. The console stands for the desk after all commands, and those that its lines came to are published or unsent. It

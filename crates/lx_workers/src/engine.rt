@@ -54,8 +54,11 @@ impl<R: Wait, G: Origin, C: Pace, B: Before> Listener
 
     ghost nothing = { λ x. (accepted_nothing x.gate x.unsent, sent_nothing x.writers x.unsent) };
 
-    ghost both = { λ x y z before after one two. (accepted_both x.gate x.unsent y.gate y.unsent z.gate
-        z.unsent before after one.0 two.0, sent_both x.writers x.unsent y.writers y.unsent z.writers z.unsent before after one.1 two.1) };
+    ghost both = { λ x y z before after one two. (
+      accepted_both x.gate x.unsent y.gate y.unsent z.gate
+          z.unsent before after one.0 two.0,
+      sent_both x.writers x.unsent y.writers y.unsent z.writers z.unsent before after one.1 two.1,
+    ) };
 
     fn admit(&mut self, command: &Command) -> bool {
         if is_tick(command) {
