@@ -78,7 +78,6 @@ impl HostDesk {
             (λ ample. Answered ample self.old.engine self.new.engine line.now result (reply_bytes self.new.reply)) }
         ensures wanted { OnErr result (Rose (wants_of self.old.reply) (wants_of self.new.reply)) }
         ensures taken { self.new.taken ≡ self.old.taken }
-        ensures later { self.old.heap.refusals ≤ self.new.heap.refusals }
     {
         self.engine.answer_in(&mut self.heap, line, &mut self.reply)
     }
