@@ -61,14 +61,14 @@ pub fn run_live_in<
     requires full { IsFull outlets.old }
     ensures outlets { KeepsOutlets K.Sink (Some (Script (Live universes) form)) result input.old input.new output.old
         output.new outlets.old outlets.new }
-    ensures ended { ByLiveMemory (H.refusals heap.old) (H.refusals heap.new) writers.old writers.new (λ ample. IfSome (S.left input.old)
-        (λ bytes. HasLived ample result K.Sink universes form bytes (S.left input.new) (O.holds output.old)
+    ensures ended { ByLiveMemory (H.refusals heap.old) (H.refusals heap.new) writers.old writers.new (λ known. IfSome (S.left input.old)
+        (λ bytes. HasLived known result K.Sink universes form bytes (S.left input.new) (O.holds output.old)
         (O.holds output.new) outlets.old outlets.new)) }
     ensures cause { HasLiveCause K.Sink result (S.faults input.old) (S.faults input.new) (O.faults output.old) (O.faults output.new)
         outlets.old outlets.new }
     ensures order { ByLiveMemory (H.refusals heap.old) (H.refusals heap.new) writers.old writers.new
-        (λ ample. DecidesInOrder result (S.faults input.old) (S.faults input.new) O.Sink output.old output.new outlets.old outlets.new
-        (λ Told. IfSome (S.left input.old) (λ bytes. LivesToEnd ample Told K.Sink universes form bytes (O.holds output.old)
+        (λ known. DecidesInOrder result (S.faults input.old) (S.faults input.new) O.Sink output.old output.new outlets.old outlets.new
+        (λ Told. IfSome (S.left input.old) (λ bytes. LivesToEnd known Told K.Sink universes form bytes (O.holds output.old)
         (O.holds output.new) outlets.old outlets.new))) }
     ensures finished { Finishes (S.faults input.old) (S.faults input.new) O.Sink output.old output.new result }
     ensures wanted { WantsLive O.Sink K.Sink (H.refusals heap.old) (H.refusals heap.new) writers.old writers.new output.old output.new
