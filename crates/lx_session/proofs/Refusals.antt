@@ -34,8 +34,8 @@ none_spared true (Some k) P may is = absurd may
 none_spared false (Some k) P may is = absurd cc
 
 not_true : (b : Bool) → (b ≡ true → ⊥) → b ≡ false
-not_true true no = absurd (no refl)
-not_true false no = refl
+not_true true isnt = absurd (isnt refl)
+not_true false isnt = refl
 
 -- with one line more
 pub pays_on : (admitted admitted' : Bool) (a b c : ℕ) (failures : List (Option ℕ)) (failed : Option ℕ) → (admitted' ≡ true → admitted ≡ true)
@@ -48,7 +48,7 @@ pays_on admitted false a b c failures (Some k) so_far later none pays = λ is. a
 pays_on admitted true a b c failures (Some k) so_far later none pays = λ is.
     let e = count_by-append is_some failures (Some k ∷ []) in
     let before = pays (so_far is) in
-    let short : nat_lt c (one_more b) ≡ false = not_true (nat_lt c (one_more b)) (λ stood. let no : Some k ≡ None = none stood in absurd cc) in
+    let short : nat_lt c (one_more b) ≡ false = not_true (nat_lt c (one_more b)) (λ stood. let odd : Some k ≡ None = none stood in absurd cc) in
     let risen = le_from c (one_more b) short in
     omega (arith, e, before, risen)
 

@@ -152,13 +152,13 @@ module _ {S : Type 0} {by : Answering (List ℕ)} {Paid : List (Option ℕ) → 
       let n = length (s.raws ++ q.raw ∷ []) in
       let appended = Appends-kept h h' h'' s.now.text s.appended u.kept in
       let both = handed_then told a b c s.raws (q.raw ∷ []) s.handed q.handed in
-      let most : length lines ≤ n - 1 = omega (arith, length-append s.raws (q.raw ∷ []), length-map s.raws without_cr) in
+      let short : length lines ≤ n - 1 = omega (arith, length-append s.raws (q.raw ∷ []), length-map s.raws without_cr) in
       with_both (unread told a) _ _ _ (begins_more s.raws q.raw both.took)
       (handed_all both.took) (λ xs is handed.
       answers_front s.done most few_now [] n (ap (before_first ends_script) is.1 ∙ before_quit lines (without_cr q.raw) is.0 s.done.go_on q.quits
-      ∙ sym (append-nil lines)) (ap (take n) (append-nil lines) ∙ take_all n lines (omega (arith, most))) handed
+      ∙ sym (append-nil lines)) (ap (take n) (append-nil lines) ∙ take_all n lines (omega (arith, short))) handed
       (front_whole h h'' s.now.text appended)
-      ([], rw (append-nil lines, take_all (n - 1) lines most, s.done.is, append-nil s.now.text) appended) u.stands)
+      ([], rw (append-nil lines, take_all (n - 1) lines short, s.done.is, append-nil s.now.text) appended) u.stands)
 
   -- or within a reply.
   stops_in_reply : HalfAnsweredLine (spared ample by) Stands told b c h' h'' s.now

@@ -1,4 +1,4 @@
-use Rattle.lx_session.proofs.Imports.{◌≡◌, ◌∙◌, Bool, true, false, ap, arith, refl, spared}
+use Rattle.lx_session.proofs.Imports.{[], ◌++◌, ◌≡◌, ◌∙◌, ◌∷◌, Bool, true, false, ap, arith, refl, spared}
 use Rattle.lx_session.proofs.SoFar.{SoFar, PaysMore, so_far_none, so_far_more, passed_none, passed_more, fits}
 use Rattle.lx_session.proofs.LineOutcomes.{failed_as}
 use Rattle.lx_session.proofs.ScriptEnds.{so_far_ends, so_far_fails, fails_by_limit}
@@ -68,7 +68,7 @@ returns-in_err-take_line-clause-outcome g c = λ all most admitted known since s
     (so_far_fails (λ since s. g.A.AnswersBeside.stands since all s c.script.answerer c.script.lent)
     (λ since s. g.A.AnswersBeside.stands since all s c.take_line.new.answerer c.take_line.new.lent) since c.take_line.new.lines
     c.take_line.new.tally (g.K.Sink.holds c.take_line.new.sink) c.in_err-take_line.field-0.0 s ample most
-    (λ failed none. few_at most _ _ _ _ known (pays g after s.failures s.paid failed none))
+    (λ failed none. few_at most _ _ _ (s.failures ++ failed ∷ []) known (pays g after s.failures s.paid failed none))
     (c.in_err-take_line.ensures.outcome all ample (take_at _ _ _ admitted)))
 
 pub returns-in_err-take_line-clause-limit : goal.returns-in_err-take_line-clause-limit
@@ -85,7 +85,7 @@ returns-clause-outcome g c = λ all most admitted known since state stood_at.
     let ample = is_ample g after in
     let o = rw c.if-branch.false at (c.in_ok-take_line.ensures.outcome all ample (take_at _ _ _ admitted)) in
     let s = c.script.invariant.so_far all (λ is. c.take_line.ensures.all (admitted is)) since state stood_at in
-    so_far_ends s ample most (λ failed none. few_at most _ _ _ _ known (pays g after s.failures s.paid failed none))
+    so_far_ends s ample most (λ failed none. few_at most _ _ _ (s.failures ++ failed ∷ []) known (pays g after s.failures s.paid failed none))
     (λ s. g.A.AnswersBeside.stands since all s c.take_line.new.answerer c.take_line.new.lent) c.take_line.new.lines
     (g.K.Sink.holds c.take_line.new.sink) (o.1 since s.now s.stands s.counts) o.0
 
