@@ -33,7 +33,7 @@ use std::thread::Threads;
 /// the output only where the input had none.
 ///
 /// Its memory is that of two heaps: the first's for the show and its edits, and the queue's for what the lines go through.
-/// Where the heap refused nothing no edit was refused as out of memory. Memory is told only where the heap refused some, or the
+/// No more edits were refused as out of memory than the heap refused calls. Memory is told only where the heap refused some, or the
 /// queue's did, or where the output itself is out of memory.
 pub fn run_crew_in<
     R: Threads + Wait + Sync,

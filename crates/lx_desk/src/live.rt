@@ -34,7 +34,7 @@ use std::thread::Threads;
 /// none. Where a read failed, all replies before it are handed on.
 ///
 /// Its memory is that of two heaps: the first's for the show and its edits, and the writer's for what is published.
-/// Where the heap refused nothing no edit was refused as out of memory, as long as fewer than 2^62 commands were accepted. Where the
+/// No more edits were refused as out of memory than the heap refused calls, as long as fewer than 2^62 commands were accepted. Where the
 /// writer's refused nothing, all accepted commands were published, also where the run ended by a fault. Memory is told only where the heap
 /// refused some, or the writer's did, or where the output or an outlet itself is out of memory.
 pub fn run_live_in<
