@@ -1,5 +1,5 @@
 -- The last of the entries of a transcript, and those before it.
-use Rattle.lx_crew.proofs.Imports.{◌≡◌, ℕ, ◌-◌, Bool, Option, None, List, [], ◌∷◌, ◌++◌, length, take, drop, sym, ap, ◌∙◌}
+use Rattle.lx_crew.proofs.Imports.{◌≡◌, ℕ, ◌-◌, Option, None, List, [], ◌∷◌, ◌++◌, length, take, drop, sym, ap, ◌∙◌}
 use Rattle.lx_crew.proofs.Imports.{subst}
 use Rattle.lx_crew.proofs.Imports.{append-nil, append_assoc, arith, length-append, take-append-drop, Appends, AppendsAtLeast}
 use Rattle.lx_crew.proofs.Imports.{CrewEntry, op_text, named, after_entry, crew_answering, crew_session, crew_text, Desk, line_of, Session}

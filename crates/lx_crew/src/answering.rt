@@ -1,7 +1,7 @@
 //! The answer to one entry.
 #![tactic(auto, using(lx_io::proofs::Chain::puts))]
 
-ghost use Rattle.std.specs.Prelude.{◌≡◌, ◌≤◌, ◌+◌, None, Some, Bool, true, List, ℕ, ◌++◌, ◌∷◌, [], option_copied};
+ghost use Rattle.std.specs.Prelude.{◌≡◌, ◌≤◌, ◌+◌, None, Some, List, ℕ, ◌++◌, ◌∷◌, [], option_copied};
 ghost use Rattle.lx_crew.specs.Imports.{Puts, HasSinkCause, op_text, Desk, meaning_of, TallyHasRoom, HasOneMore, FromDesk};
 ghost use Rattle.lx_crew.specs.Imports.{AnswersNamed, HasAnswered, OutputCause, named_line};
 ghost use Rattle.lx_crew.specs.declared.entry.Message.{Message as AnEntry};

@@ -1,6 +1,6 @@
 //! A crew: the engine and the operators at the same time.
 
-ghost use Rattle.std.specs.Prelude.{◌≡◌, ◌+◌, ◌<◌, ◌≤◌, ◌⊎◌, ℕ, Bool, List, [], ◌++◌, ◌∷◌, length, map, true, false, slice_get, Some, None};
+ghost use Rattle.std.specs.Prelude.{◌≡◌, ◌+◌, ◌<◌, ◌≤◌, ◌⊎◌, ℕ, List, [], ◌++◌, ◌∷◌, length, map, true, false, slice_get, Some, None};
 ghost use Rattle.std.specs.Prelude.{IfOk, OnErr, IsSome, vec_len, vec_capacity};
 ghost use Rattle.lx_crew.specs.Imports.{All, AllZip, view, IsPassOf, IsSamePass, Rose, Desk, ByRefusals, StandsFor, engine_view};
 ghost use Rattle.lx_crew.specs.Imports.{HasServedEntries, OutputCause, HasCrewed, EachAt, HasRunOperator, Hired, HasSentNothing, Works};

@@ -2,7 +2,7 @@
 use Rattle.lx_desk.proofs.Imports.{◌≡◌, ◌≢◌, inl, inr, ℕ, zero, suc, ◌+◌, ◌<◌, ◌≤◌, true, false, Option, Some, None, IfSome, IsSome}
 use Rattle.lx_desk.proofs.Imports.{List, [], ◌∷◌, ◌++◌, length, take, drop, slice_get, refl, sym, ap, ◌∙◌, subst, arith, take_all}
 use Rattle.lx_desk.proofs.Imports.{length-append, length-drop, AllByRecursion, position_or_len, same_Some, slice_get_within, SinkFault, Rose}
-use Rattle.lx_desk.proofs.Imports.{lines_of, Show, opened, Kept, ends_script, lines_wanted, Tally, OperatorFault, EachAt, Status, IsLowest}
+use Rattle.lx_desk.proofs.Imports.{lines_of, Show, opened, Kept, ends_script, lines_wanted, Tally, OperatorFault, EachAt, Status}
 use Rattle.lx_desk.proofs.Imports.{WritesTranscript, WritesLines, Serves, WritesFirstLines, KeepsPlaces, NoOperatorFailed, OperatorFailed, TellsOperators, TellsCrew, Finishes}
 use Rattle.lx_desk.proofs.Imports.{◌⊎◌, ByRefusals, ServesOver, known_since, EndsScript, HandsOn, ToldBySink, ToldBySource}
 use Rattle.std.specs.Io.KnownBytes.{Appends}

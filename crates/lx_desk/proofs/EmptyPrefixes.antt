@@ -1,7 +1,7 @@
 -- Where nothing was written, a prefix of what a job writes was.
 use Rattle.lx_desk.proofs.Imports.{Option, List, ℕ, [], Moves, Job, Check, Sheet, Make, Script, Crew, Render, reads, made_input}
 use Rattle.lx_desk.proofs.Imports.{arith, output_of, JobAllows, None, Some, WritesFront}
-use Rattle.lx_desk.proofs.Imports.{◌≡◌, AppendsFront, AppendsFront-from, failed_count, IsAtMost, JobFailures, Ok, Err, Reading, refl, Result, ScriptAllows, ScriptKind, subst, sym}
+use Rattle.lx_desk.proofs.Imports.{◌≡◌, AppendsFront, AppendsFront-from, failed_count, IsAtMost, JobFailures, Ok, Err, Reading, Result, ScriptAllows, ScriptKind, subst, sym}
 use Rattle.lx_desk.proofs.Imports.{TextFault}
 use Rattle.std.proofs.KnownBytes.{Appends-nil}
 

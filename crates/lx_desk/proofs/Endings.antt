@@ -3,7 +3,7 @@ use Rattle.lx_desk.proofs.Imports.{◌≡◌, true, false, Option, IfSome, List,
 use Rattle.lx_desk.proofs.Imports.{[], length, AppendsFront, Appends, AppendsFront-from, Lines, unread, Form, Job, Make, Script, ScriptKind}
 use Rattle.lx_desk.proofs.Imports.{answering_of, opening_of, Reading, IsOk, Loaded, ShowFault, reading_of, HasRead, Status, RefusedBy, EndsJob}
 use Rattle.lx_desk.proofs.Imports.{EndsScript, HasEndedBy, WritesAll, WritesFront, WritesPrefix, WritesTaken, None, Result, Ok, Err, TextFault}
-use Rattle.lx_desk.proofs.Imports.{Bool, ToldBySink, ToldBySource, Tells, Render, Live, Undo, Two, desk_lawful, first_of_whole, first_replies}
+use Rattle.lx_desk.proofs.Imports.{ToldBySink, ToldBySource, Tells, Render, Live, Undo, Two, desk_lawful, first_of_whole, first_replies}
 use Rattle.lx_desk.proofs.Imports.{output_of, over_show, script_session, script_of, fault_text, lines_of, lines_read, reads}
 use Rattle.lx_session.specs.OneAnswer.{IsLawful}
 use Rattle.lx_lists.proofs.TwoAnswers.{two_lawful}

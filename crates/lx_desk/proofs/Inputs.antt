@@ -1,5 +1,5 @@
 -- How much of its input the program wants, and what it writes for it, from the reader's answer and the session's.
-use Rattle.lx_desk.proofs.Imports.{◌≡◌, ◌⊎◌, inl, inr, ℕ, zero, suc, ◌+◌, ◌-◌, ◌<◌, ◌≤◌, false, true, eqb, cond, Option, Some}
+use Rattle.lx_desk.proofs.Imports.{◌≡◌, ◌⊎◌, inl, inr, ℕ, zero, suc, ◌+◌, ◌-◌, ◌<◌, ◌≤◌, eqb, cond, Option, Some}
 use Rattle.lx_desk.proofs.Imports.{None, Result, Ok, Err, IfSome, IsErr, IsOk, List, [], ◌∷◌, ◌++◌, length, take, refl, sym, ap, ◌∙◌, subst}
 use Rattle.lx_desk.proofs.Imports.{arith, length-append, append-nil, append_assoc, take_all, Appends, IsAtEnd, INPUT_BYTES, AppendsFront, AppendsFront-from}
 use Rattle.lx_desk.proofs.Imports.{Lines, LinesBetween, unread, first_lines-more, first_lines-longer, Form, TextFault, lines_of, Reading, reads, script_of}

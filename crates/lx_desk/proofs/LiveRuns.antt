@@ -1,5 +1,5 @@
 -- What the status of a live run says of its output and of its outlets.
-use Rattle.lx_desk.proofs.Imports.{◌≡◌, inl, inr, ℕ, zero, suc, ◌<◌, ◌≤◌, Bool, true, false, Option, Some, None, Result}
+use Rattle.lx_desk.proofs.Imports.{◌≡◌, inl, inr, ℕ, zero, suc, ◌<◌, ◌≤◌, true, false, Option, Some, None, Result}
 use Rattle.lx_desk.proofs.Imports.{Ok, Err, IfSome, List, [], ◌∷◌, ◌++◌, length, take, slice_get, refl, sym, ap, ◌∙◌, subst, arith}
 use Rattle.lx_desk.proofs.Imports.{append-nil, take_all, ◌+◌, HandsOnReplies, INPUT_BYTES, same_Some, SinkFault, Lines, Command, lines_of, Show, opened}
 use Rattle.lx_desk.proofs.Imports.{Kept, Session, begin_at, after_each, answered_lines, Allows, bytes_wanted, DeskState, begun, desk_answering}

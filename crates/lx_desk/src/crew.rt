@@ -1,6 +1,6 @@
 //! The job `crew`: the scripts of several operators at the same time, over a show.
 
-ghost use Rattle.std.specs.Prelude.{◌≡◌, ◌≤◌, true, false, IfSome, IsSome, Some, length};
+ghost use Rattle.std.specs.Prelude.{◌≡◌, ◌≤◌, IfSome, IsSome, Some, length};
 ghost use Rattle.lx_desk.specs.Imports.{reads, EachAt, ByRefusals, HandsOn, HasCrewCause, HasCrewEnded, KeepsOperators, ServesOver, TakesNoneOrWants};
 ghost use Rattle.lx_desk.specs.Imports.{TellsCrew, TellsOperators, WantsCrew, WritesCrewFront, Finishes, HasWanted};
 ghost use Rattle.lx_base.specs.declared.TheConstants.{OPERATORS};

@@ -1,6 +1,6 @@
 //! The jobs that are done in the caller's thread.
 
-ghost use Rattle.std.specs.Prelude.{IfSome, Some, true, ◌≡◌, ◌≤◌, ℕ};
+ghost use Rattle.std.specs.Prelude.{IfSome, Some, ◌≡◌, ◌≤◌, ℕ};
 ghost use Rattle.lx_desk.specs.Imports.{given_to, WritesPrefix, ByRefusals, AnswersJob, HasEnded, HasEndedBy, HasCauseOf, Finishes, HasWanted};
 ghost use Rattle.lx_desk.specs.Imports.{WantsMemory};
 ghost use Rattle.lx_spec.specs.declared.Job.TheVariants.{Make};

@@ -1,6 +1,6 @@
 //! A crew as a call: `crew N`.
 
-ghost use Rattle.std.specs.Prelude.{◌≡◌, ◌≤◌, true, false, IsSome, length, map, string_bytes};
+ghost use Rattle.std.specs.Prelude.{◌≡◌, ◌≤◌, true, IsSome, length, map, string_bytes};
 ghost use Rattle.lx_program.specs.Imports.{EachAt, job_of, reads, ByRefusals, HandsOn, HasCrewCause, HasCrewEnded, KeepsOperators, TakesNoneOrWants};
 ghost use Rattle.lx_program.specs.Imports.{WritesCrewFront, Finishes, HasWanted, OfCrew, in_use, ReadsWordsOnce, WantsCrewOrWords, begins_with_dash, list_any};
 ghost use Rattle.lx_base.specs.declared.TheConstants.{OPERATORS};

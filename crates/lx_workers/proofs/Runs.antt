@@ -1,7 +1,7 @@
 -- A session whose accepted commands are published, from the opening to its end.
 use Rattle.lx_workers.proofs.Imports.{◌≡◌, ◌≤◌, ℕ, Bool, true, false, cond, List, [], Option, Some, None, Result, IfSome}
 use Rattle.lx_workers.proofs.Imports.{refl, subst, arith, Command, Show, Desk, opened, Kept, Published, IsInStep}
-use Rattle.lx_workers.proofs.Imports.{engine_answering, most_of, SendsAll, HasStood, IsMost, RoseAtMost}
+use Rattle.lx_workers.proofs.Imports.{engine_answering, most_of, SendsAll, IsMost, RoseAtMost}
 use Rattle.lx_spec.specs.DeskSession.{DeskState, begun}
 use Rattle.lx_console.specs.ConsoleMeaning.{StandsFor}
 use Rattle.lx_session.specs.declared.fault.SessionFault.{SessionFault}

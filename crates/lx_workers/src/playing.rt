@@ -1,6 +1,6 @@
 //! A live run: the engine, and a worker for each outlet beside it.
 ghost use Rattle.std.specs.Prelude.{◌≡◌, ◌+◌, ◌-◌, ◌<◌, ◌≤◌, ◌⊎◌, [], length, IsSome, IsSomeAnd, IfOk, IfSome, OnErr, vec_len};
-ghost use Rattle.std.specs.Prelude.{vec_capacity, ℕ, Bool, true, false, Some, None, slice_get, slice_set, List};
+ghost use Rattle.std.specs.Prelude.{vec_capacity, ℕ, Some, None, slice_get, slice_set, List};
 ghost use Rattle.lx_workers.specs.Imports.{AllZip, CanAdvance, SameSource, bytes_taken, unread, opened, StandsFor, HasSessionCause};
 ghost use Rattle.lx_workers.specs.Imports.{KeepsLimit, ByRefusals, HasStood, HandsOnReplies, Published, IsInStep, EachAt, IsNewTap, Rose, HasRunFrom};
 ghost use Rattle.lx_workers.specs.Imports.{HasServed, HasEnded, IsFull, IsTaken, IsGiven, HasPlayedScript};

@@ -1,5 +1,5 @@
-use Rattle.lx_session.proofs.Imports.{[], ◌++◌, ◌≡◌, ◌∙◌, ◌∷◌, Bool, true, false, ap, arith, refl, spared}
-use Rattle.lx_session.proofs.SoFar.{SoFar, PaysMore, so_far_none, so_far_more, passed_none, passed_more, fits}
+use Rattle.lx_session.proofs.Imports.{[], ◌++◌, ◌∙◌, ◌∷◌, Bool, true, false, ap, arith, refl, spared}
+use Rattle.lx_session.proofs.SoFar.{PaysMore, so_far_none, so_far_more, passed_none, passed_more, fits}
 use Rattle.lx_session.proofs.LineOutcomes.{failed_as}
 use Rattle.lx_session.proofs.ScriptEnds.{so_far_ends, so_far_fails, fails_by_limit}
 use Rattle.lx_session.proofs.Stood.{take_none}
