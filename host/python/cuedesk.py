@@ -25,7 +25,7 @@ from types import TracebackType
 from typing import Any, Callable, Dict, List, NamedTuple, Optional, Type, Union
 
 __all__ = ["BadLine", "Cue", "Desk", "Refused", "ShowRefused", "State", "SLOTS", "TICK", "UNIVERSES", "__version__"]
-__version__ = "1.0.8"
+__version__ = "1.0.9"
 
 #: Universes, the slots of each, and how many hundredths of a second a tick is.
 UNIVERSES = 32

@@ -5,7 +5,7 @@ use Rattle.lx_crew.proofs.Imports.{length-append, IfSome, is_some, Appends, Keep
 use Rattle.lx_crew.proofs.Imports.{CrewEntry, op_text, named, after_entry, crew_answering, crew_text, Desk, Kept, line_of, Session, begin_at}
 use Rattle.lx_crew.proofs.Imports.{DeskState, begun, IsAcceptedEdit, StandsFor, Tally, extends_line, Message, Line, LongLine, text_in, long_line}
 use Rattle.lx_crew.proofs.Imports.{named_line, entries_of, said, NamedAnswer, AnswersNamed, IsDoneWithEntries, AnsweredAll, AnsweredPart, HasAnswered}
-use Rattle.lx_crew.proofs.Imports.{ToldBySink, true, HasStood, MayFailUnless, spared, AppendsAtLeast, crew_session, all_but_last}
+use Rattle.lx_crew.proofs.Imports.{ToldBySink, true, ◌≤◌, IsAmple, pays_on, take_at, AppendsAtLeast, crew_session, all_but_last}
 use Rattle.lx_crew.proofs.Imports.{text_to_last_name, HasStopped, HasSinkCause, NoneFailed, WroteUnfailed, ◌⊎◌}
 use Rattle.std.specs.Result.{result_err}
 use Rattle.std.proofs.KnownBytes.{Appends-nil, Appends-trans, Appends-kept}
@@ -16,30 +16,23 @@ use Rattle.lx_crew.proofs.LastEntries.{at_least, at_least_first, names_written, 
 use Rattle.lx_session.specs.LineAnswer.{FromDesk}
 use Rattle.lx_session.specs.LineReply.{counts_in}
 use Rattle.lx_session.specs.LineState.{meaning_of}
-use Rattle.lx_spec.specs.Session.{Answering, after_each}
 use Rattle.lx_session.proofs.EachLine.{each-append, allowed-append}
-use Rattle.lx_session.proofs.Stood.{spares}
 use Rattle.lx_crew.specs.declared.entry.LineText.{LineText}
 
--- Where fewer attempts may fail the session is the same.
-same_spared : {A : Type 0} (ample : Bool) (by : Answering A) (failures : List (Option ℕ)) (s : Session by.State) (xs : List A)
-    → after_each by failures s xs ≡ after_each (spared ample by) failures s xs
-same_spared ample by failures s [] = refl
-same_spared ample by [] s (x ∷ xs) = same_spared ample by [] (by.answer None s x) xs
-same_spared ample by (failed ∷ failures) s (x ∷ xs) = same_spared ample by failures (by.answer failed s x) xs
-
--- one more entry, of which this attempt failed, if one did
-done_more : {ample : Bool} {d : Desk} {entries : List CrewEntry} {failures : List (Option ℕ)} {now next : Session DeskState} (e : CrewEntry)
-    (failed : Option ℕ) → IsDoneWithEntries ample d entries failures now → after_entry failed now e ≡ next
-    → IfSome failed (λ attempt. MayFailUnless ample (IsAcceptedEdit now.state.desk (line_of e.line)))
-    → IsDoneWithEntries ample d (entries ++ e ∷ []) (failures ++ failed ∷ []) next
-done_more {ample} {d} {entries} {failures} e failed done is may =
+-- One more entry, of which this attempt failed, if one did. Where the heap refused nothing none did.
+done_more : {before refusals refusals' : ℕ} {d : Desk} {entries : List CrewEntry} {failures : List (Option ℕ)} {now next : Session DeskState}
+    (e : CrewEntry) (failed : Option ℕ) → IsDoneWithEntries before refusals d entries failures now → after_entry failed now e ≡ next
+    → IfSome failed (λ attempt. IsAcceptedEdit now.state.desk (line_of e.line)) → refusals ≤ refusals'
+    → (IsAmple true refusals refusals' → failed ≡ None)
+    → IsDoneWithEntries before refusals' d (entries ++ e ∷ []) (failures ++ failed ∷ []) next
+done_more {before} {refusals} {refusals'} {d} {entries} {failures} e failed done is may later none =
     let s = begin_at (begun d) in
     record {
       each = omega (arith, done.each, length-append failures (failed ∷ []), length-append entries (e ∷ []));
       is = each-append crew_answering failures (failed ∷ []) s entries (e ∷ []) done.each ∙ ap (λ t. after_entry failed t e) done.is ∙ is;
-      allows = allowed-append (spared ample crew_answering) failures (failed ∷ []) s entries (e ∷ []) done.each done.allows
-          (rw (← same_spared ample crew_answering failures s entries, done.is) (may, tt));
+      allows = allowed-append crew_answering failures (failed ∷ []) s entries (e ∷ []) done.each done.allows (rw done.is (may, tt));
+      few = pays_on true true before refusals refusals' failures failed (λ all. all) later
+          (λ ample. none ((take_at {all = true} true refusals refusals' (λ all. all)).memory ample)) (λ all. done.few) refl;
     }
 
 -- What is said of one more.
@@ -53,12 +46,13 @@ said_more popped e more is =
 none_failed_then : {K : Type 0} (told : ToldBySink K) {a b c : K} → NoneFailed told a b → NoneFailed told b c → NoneFailed told a c
 none_failed_then told p q = (q.0 ∙ p.0, q.1 ∙ p.1)
 
-pub answered_none : {K : Type 0} (ample : Bool) (told : ToldBySink K) (d : Desk) (sink : K) (console : Kept) (tally : Tally)
-    → StandsFor d console → counts_in tally ≡ record { ok = 0; refused = 0; bad = 0 } → AnsweredAll ample told d [] sink sink console tally
-answered_none ample told d sink console tally stands counts = record {
+pub answered_none : {K : Type 0} (refusals : ℕ) (told : ToldBySink K) (d : Desk) (sink : K) (console : Kept) (tally : Tally)
+    → StandsFor d console → counts_in tally ≡ record { ok = 0; refused = 0; bad = 0 }
+    → AnsweredAll refusals refusals told d [] sink sink console tally
+answered_none refusals told d sink console tally stands counts = record {
   failures = [];
   now = begin_at (begun d);
-  done = record { each = refl; is = refl; allows = tt };
+  done = record { each = refl; is = refl; allows = tt; few = omega arith };
   text = Appends-nil (told.holds sink);
   none_failed = (refl, refl);
   counts = sym counts;
@@ -66,17 +60,18 @@ answered_none ample told d sink console tally stands counts = record {
 }
 
 -- all of what was popped is answered, up to a fault of the output
-all_part : {K : Type 0} {ample : Bool} {told : ToldBySink K} {d : Desk} {popped : List Message} {start sink : K} {console : Kept}
-    {failures : List (Option ℕ)} {now : Session DeskState} → IsDoneWithEntries ample d (said popped) failures now
+all_part : {K : Type 0} {before refusals : ℕ} {told : ToldBySink K} {d : Desk} {popped : List Message} {start sink : K} {console : Kept}
+    {failures : List (Option ℕ)} {now : Session DeskState} → IsDoneWithEntries before refusals d (said popped) failures now
     → AppendsFront (told.holds start) (told.holds sink) now.text
     → AppendsAtLeast (told.holds start) (told.holds sink) (crew_text d (all_but_last (said popped)) failures)
-    → HasStopped told d (said popped) failures start sink console → AnsweredPart ample told d popped start sink console
+    → HasStopped told d (said popped) failures start sink console → AnsweredPart before refusals told d popped start sink console
 all_part {told = told} {popped = popped} {start} {sink} {failures = failures} done text earlier stopped = record {
   first = popped;
   rest = [];
   are = sym (append-nil popped);
   failures = failures;
   allows = done.allows;
+  few = done.few;
   text = subst (λ (s : Session DeskState). AppendsFront (told.holds start) (told.holds sink) s.text) (sym done.is) text;
   earlier = earlier;
   stopped = stopped;
@@ -91,9 +86,9 @@ wrote_unfailed told start before text p none = record {
 }
 
 -- One more entry.
-module _ {K : Type 0} {ample : Bool} {d : Desk} (told : ToldBySink K) (sink sink' : K) {popped : List Message} {start : K}
-    {console : Kept} (console' : Kept) {tally : Tally} (tally' : Tally) (entry : Message) {e : CrewEntry} (refusals refusals' : ℕ)
-    (stood : ample ≡ true → HasStood refusals refusals') (a : AnsweredAll ample told d popped start sink console tally)
+module _ {K : Type 0} {before : ℕ} {d : Desk} (told : ToldBySink K) (sink sink' : K) {popped : List Message} {start : K}
+    {console : Kept} (console' : Kept) {tally : Tally} (tally' : Tally) (entry : Message) {e : CrewEntry} {refusals : ℕ} (refusals' : ℕ)
+    (later : refusals ≤ refusals') (a : AnsweredAll before refusals told d popped start sink console tally)
     (is : entries_of entry.place entry.number entry.sent ≡ e ∷ []) where
   abbrev h : Option (List ℕ)
   h = told.holds start
@@ -103,27 +98,27 @@ module _ {K : Type 0} {ample : Bool} {d : Desk} (told : ToldBySink K) (sink sink
 
   -- the session after it
   done_so : (failed : Option ℕ) (next : Session DeskState) → after_entry failed a.now e ≡ next
-      → IfSome failed (λ attempt. MayFailUnless ample (IsAcceptedEdit a.now.state.desk (line_of e.line)))
-      → IsDoneWithEntries ample d (said (popped ++ entry ∷ [])) (a.failures ++ failed ∷ []) next
-  done_so failed next goes may = subst (λ es. IsDoneWithEntries ample d es (a.failures ++ failed ∷ []) next)
-      (sym (said_more popped entry (e ∷ []) is)) (done_more e failed a.done goes may)
+      → IfSome failed (λ attempt. IsAcceptedEdit a.now.state.desk (line_of e.line)) → (IsAmple true refusals refusals' → failed ≡ None)
+      → IsDoneWithEntries before refusals' d (said (popped ++ entry ∷ [])) (a.failures ++ failed ∷ []) next
+  done_so failed next goes may none = subst (λ es. IsDoneWithEntries before refusals' d es (a.failures ++ failed ∷ []) next)
+      (sym (said_more popped entry (e ∷ []) is)) (done_more e failed a.done goes may later none)
 
   -- a part of it was written: its line is done, and all of its name was written before a fault, or neither
   part_so : (failed : Option ℕ) (next : Session DeskState)
-      → IsDoneWithEntries ample d (said (popped ++ entry ∷ [])) (a.failures ++ failed ∷ []) next → AppendsFront h h' next.text
+      → IsDoneWithEntries before refusals' d (said (popped ++ entry ∷ [])) (a.failures ++ failed ∷ []) next → AppendsFront h h' next.text
       → AppendsAtLeast h h' a.now.text
       → (AppendsAtLeast h h' (a.now.text ++ op_text e)
       × (WroteUnfailed told start (a.now.text ++ op_text e) × StandsFor next.state.desk console'))
       ⊎ (AppendsFront h h' (a.now.text ++ op_text e) × (WroteUnfailed told start a.now.text × StandsFor a.now.state.desk console'))
-      → AnsweredPart ample told d (popped ++ entry ∷ []) start sink' console'
+      → AnsweredPart before refusals' told d (popped ++ entry ∷ []) start sink' console'
   part_so failed next done text earlier stopped =
       let fs = a.failures ++ failed ∷ [] in
       let all = said_more popped entry (e ∷ []) is in
-      let before : a.now ≡ crew_session d (all_but_last (said (popped ++ entry ∷ []))) fs =
+      let earlier_now : a.now ≡ crew_session d (all_but_last (said (popped ++ entry ∷ []))) fs =
       sym (ap (λ es. crew_session d (all_but_last es) fs) all ∙ session_before (failed ∷ []) e a.done) in
       let name : a.now.text ++ op_text e ≡ text_to_last_name d (said (popped ++ entry ∷ [])) fs =
       sym (ap (λ es. text_to_last_name d es fs) all ∙ text_before (failed ∷ []) e a.done) in
-      all_part done text (subst (λ (s : Session DeskState). AppendsAtLeast h h' s.text) before earlier) (elim stopped [
+      all_part done text (subst (λ (s : Session DeskState). AppendsAtLeast h h' s.text) earlier_now earlier) (elim stopped [
         | inl whole ↦ inl (
           subst (λ (v : List ℕ). AppendsAtLeast h h' v) name whole.0,
           (
@@ -134,20 +129,19 @@ module _ {K : Type 0} {ample : Bool} {d : Desk} (told : ToldBySink K) (sink sink
         | inr front ↦ inr (
           subst (λ (v : List ℕ). AppendsFront h h' v) name front.0,
           (
-            subst (λ (s : Session DeskState). WroteUnfailed told start s.text) before front.1.0,
-            subst (λ (s : Session DeskState). StandsFor s.state.desk console') before front.1.1,
+            subst (λ (s : Session DeskState). WroteUnfailed told start s.text) earlier_now front.1.0,
+            subst (λ (s : Session DeskState). StandsFor s.state.desk console') earlier_now front.1.1,
           ),
         )
       ])
 
-  -- its line was answered: no attempt failed where memory was ample, and else one failed where it may
+  -- its line was answered
   module _ (result : Result Bool SinkFault)
       (m : NamedAnswer refusals refusals' told sink sink' result a.now (op_text e) (line_of e.line) console' tally') where
-    line_done : IsDoneWithEntries ample d (said (popped ++ entry ∷ [])) (a.failures ++ m.answer.answer.failed ∷ []) m.answer.answer.next
+    line_done : IsDoneWithEntries before refusals' d (said (popped ++ entry ∷ [])) (a.failures ++ m.answer.answer.failed ∷ []) m.answer.answer.next
     line_done =
         let w = m.answer.answer in
-        done_so w.failed w.next w.goes_on.is (spares ample w.failed (IsAcceptedEdit a.now.state.desk (line_of e.line))
-        (λ sure. m.answer.none (record { admitted = refl; stood = stood sure })) w.goes_on.allowed)
+        done_so w.failed w.next w.goes_on.is w.goes_on.allowed m.answer.none
 
     name_whole : Appends h (told.holds m.between) (a.now.text ++ op_text e)
     name_whole = Appends-trans h (told.holds sink) (told.holds m.between) a.now.text (op_text e) a.text m.named
@@ -157,7 +151,7 @@ module _ {K : Type 0} {ample : Bool} {d : Desk} (told : ToldBySink K) (sink sink
 
   pub answered_by : (result : Result Bool SinkFault)
       → AnswersNamed refusals refusals' told sink sink' result a.now (op_text e) (line_of e.line) console' tally'
-      → HasAnswered ample told d (popped ++ entry ∷ []) start sink' console' tally' (result_err result)
+      → HasAnswered before refusals' told d (popped ++ entry ∷ []) start sink' console' tally' (result_err result)
   answered_by (Ok b) (inl cut) = absurd (true≢false (sym cut.0))
   answered_by (Ok b) (inr m) =
       let w = m.answer.answer in record {
@@ -172,7 +166,7 @@ module _ {K : Type 0} {ample : Bool} {d : Desk} (told : ToldBySink K) (sink sink
   answered_by (Err f) (inl cut) =
       let more = extends_line None (named a.now e) (line_of e.line) in
       let front = front_then h (told.holds sink) h' a.now.text (op_text e) a.text cut.1 in
-      part_so None (after_entry None a.now e) (done_so None (after_entry None a.now e) refl tt)
+      part_so None (after_entry None a.now e) (done_so None (after_entry None a.now e) refl tt (λ ample. refl))
       (front_more h h' (a.now.text ++ op_text e) more.more (after_entry None a.now e).text more.text front)
       (at_least_then h (told.holds sink) h' a.now.text (op_text e) a.text cut.1)
       (inr (front, (wrote_unfailed told start sink a.now.text a.text a.none_failed, cut.2)))
@@ -207,18 +201,17 @@ said_long entry given is none = record {
 }
 
 -- one more entry was answered, where the output had no fault before
-pub answered_entry : {K : Type 0} (ample : Bool) (refusals refusals' : ℕ) (told : ToldBySink K) (sink sink' : K)
+pub answered_entry : {K : Type 0} (before refusals refusals' : ℕ) (told : ToldBySink K) (sink sink' : K)
     {result : Result Bool SinkFault} (d : Desk) (popped : List Message) (start : K) (console console' : Kept)
     (tally tally' : Tally) {entry : Message} {given : Option (List ℕ)} {output output' : Option SinkFault} → IsSaid entry given
-    → output ≡ None → output' ≡ result_err result → (ample ≡ true → HasStood refusals refusals')
+    → output ≡ None → output' ≡ result_err result → refusals ≤ refusals'
     → FromDesk console tally (λ s. AnswersNamed refusals refusals' told sink sink' result s
     (op_text (named_line entry.place entry.number [])) (meaning_of given) console' tally')
-    → HasAnswered ample told d popped start sink console tally output
-    → HasAnswered ample told d (popped ++ entry ∷ []) start sink' console' tally' output'
-answered_entry ample refusals refusals' told sink sink' {result} d popped start console console' tally tally' {entry} has none is stood done so_far =
-    let a : AnsweredAll ample told d popped start sink console tally = rw none at so_far in
-    rw is (answered_by told sink sink' console' tally' entry refusals refusals' stood a has.said result
-    (rw has.means at (done a.now a.stands a.counts)))
+    → HasAnswered before refusals told d popped start sink console tally output
+    → HasAnswered before refusals' told d (popped ++ entry ∷ []) start sink' console' tally' output'
+answered_entry before refusals refusals' told sink sink' {result} d popped start console console' tally tally' {entry} has none is later done so_far =
+    let a : AnsweredAll before refusals told d popped start sink console tally = rw none at so_far in
+    rw is (answered_by told sink sink' console' tally' entry refusals' later a has.said result (rw has.means at (done a.now a.stands a.counts)))
 
 -- an output without a fault
 pub none_is : (output : Option SinkFault) → false ≡ is_some output → output ≡ None
@@ -226,19 +219,19 @@ none_is None e = refl
 none_is (Some fault) e = cc
 
 -- a flush, where the output had no fault before, leaves what is written
-pub answered_flush : {K T : Type 0} (result : Result T SinkFault) (ample : Bool) (told : ToldBySink K) (d : Desk) (popped : List Message)
+pub answered_flush : {K T : Type 0} (result : Result T SinkFault) (before now : ℕ) (told : ToldBySink K) (d : Desk) (popped : List Message)
     (start sink sink' : K) (console : Kept) (tally : Tally) {output output' : Option SinkFault} → output ≡ None
     → output' ≡ result_err result → Keeps (told.holds sink) (told.holds sink') → HasSinkCause told sink sink' result
-    → HasAnswered ample told d popped start sink console tally output → HasAnswered ample told d popped start sink' console tally output'
-answered_flush {K} {T} result ample told d popped start sink sink' console tally none is kept cause so_far =
-    let a : AnsweredAll ample told d popped start sink console tally = rw none at so_far in
+    → HasAnswered before now told d popped start sink console tally output → HasAnswered before now told d popped start sink' console tally output'
+answered_flush {K} {T} result before now told d popped start sink sink' console tally none is kept cause so_far =
+    let a : AnsweredAll before now told d popped start sink console tally = rw none at so_far in
     let h = told.holds start in
     let h' = told.holds sink' in
     let text : Appends h h' a.now.text = Appends-kept h (told.holds sink) h' a.now.text a.text kept in
     rw is (flushed result a text cause) where
-      flushed : (r : Result T SinkFault) (a : AnsweredAll ample told d popped start sink console tally)
+      flushed : (r : Result T SinkFault) (a : AnsweredAll before now told d popped start sink console tally)
           → Appends (told.holds start) (told.holds sink') a.now.text → HasSinkCause told sink sink' r
-          → HasAnswered ample told d popped start sink' console tally (result_err r)
+          → HasAnswered before now told d popped start sink' console tally (result_err r)
       flushed (Ok x) a text cause = record {
         failures = a.failures;
         now = a.now;
@@ -262,18 +255,47 @@ answered_flush {K} {T} result ample told d popped start sink sink' console tally
             ),
           ))
 
+-- by later refusals
+pub answered_later : {K : Type 0} (before refusals refusals' : ℕ) (told : ToldBySink K) (d : Desk) (popped : List Message) (start sink : K)
+    (console : Kept) (tally : Tally) (output : Option SinkFault) → refusals ≤ refusals'
+    → HasAnswered before refusals told d popped start sink console tally output
+    → HasAnswered before refusals' told d popped start sink console tally output
+answered_later before refusals refusals' told d popped start sink console tally None later a =
+    let few = a.done.few in record {
+      failures = a.failures;
+      now = a.now;
+      done = record { each = a.done.each; is = a.done.is; allows = a.done.allows; few = omega (arith, few, later) };
+      text = a.text;
+      none_failed = a.none_failed;
+      counts = a.counts;
+      stands = a.stands;
+    }
+answered_later before refusals refusals' told d popped start sink console tally (Some fault) later a =
+    let few = a.few in record {
+      first = a.first;
+      rest = a.rest;
+      are = a.are;
+      failures = a.failures;
+      allows = a.allows;
+      few = omega (arith, few, later);
+      text = a.text;
+      earlier = a.earlier;
+      stopped = a.stopped;
+    }
+
 -- What comes after a fault of the output is thrown away.
-pub thrown_away : {K : Type 0} (ample : Bool) (told : ToldBySink K) (d : Desk) (popped : List Message) (start sink : K) (console : Kept)
+pub thrown_away : {K : Type 0} (before refusals : ℕ) (told : ToldBySink K) (d : Desk) (popped : List Message) (start sink : K) (console : Kept)
     (tally : Tally) (entry : Message) (output : Option SinkFault) → true ≡ is_some output
-    → HasAnswered ample told d popped start sink console tally output
-    → HasAnswered ample told d (popped ++ entry ∷ []) start sink console tally output
-thrown_away ample told d popped start sink console tally entry None is a = absurd (true≢false is)
-thrown_away ample told d popped start sink console tally entry (Some fault) is a = record {
+    → HasAnswered before refusals told d popped start sink console tally output
+    → HasAnswered before refusals told d (popped ++ entry ∷ []) start sink console tally output
+thrown_away before refusals told d popped start sink console tally entry None is a = absurd (true≢false is)
+thrown_away before refusals told d popped start sink console tally entry (Some fault) is a = record {
   first = a.first;
   rest = a.rest ++ entry ∷ [];
   are = ap (λ (l : List Message). l ++ entry ∷ []) a.are ∙ append_assoc a.first a.rest (entry ∷ []);
   failures = a.failures;
   allows = a.allows;
+  few = a.few;
   text = a.text;
   earlier = a.earlier;
   stopped = a.stopped;

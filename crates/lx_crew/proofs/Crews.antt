@@ -3,7 +3,7 @@ use Rattle.lx_crew.proofs.Imports.{◌≡◌, ◌⊎◌, inl, inr, ℕ, zero, su
 use Rattle.lx_crew.proofs.Imports.{◌++◌, length, map, slice_get, refl, sym, ap, ◌∙◌, subst, add-one, arith, AllByRecursion, Appends, slice_get_within}
 use Rattle.lx_crew.proofs.Imports.{filter-append, Pass, SinkFault, AppendsFront, crew_session, Desk, Kept, Session, DeskState, StandsFor, Tally, Message}
 use Rattle.lx_crew.proofs.Imports.{OperatorFault, Operator, View, said, HasAnswered, of_place, is_last, has_last, EachAt, Retired, owned, engine_view, Learned}
-use Rattle.lx_crew.proofs.Imports.{ScriptHasEnded, last_entry, ToldBySink, ToldBySource, Bool, CrewEntry, AppendsAtLeast, HasStopped, WroteUnfailed, begin_at, begun}
+use Rattle.lx_crew.proofs.Imports.{ScriptHasEnded, last_entry, ToldBySink, ToldBySource, CrewEntry, IfSome, failed_count, IsAtMost, RoseAtMost, RoseBy, all_most, few_at, AppendsAtLeast, HasStopped, WroteUnfailed, begin_at, begun}
 use Rattle.lx_crew.specs.declared.fault.OperatorFault.TheVariants.{ReadFault, InputTooLong}
 use Rattle.lx_crew.specs.CrewOutcome.{ScriptIsBack, HasWrittenTranscript, HasCrewed}
 use Rattle.std.proofs.lemmas.Bool.{cases_lt}
@@ -92,24 +92,32 @@ stopped_at told d xs ys failures sink sink' console alike stopped = elim stopped
   )
 ]
 
+-- as many calls as lines that failed were refused, so no more lines failed than is known
+few_of : (most : Option ℕ) (a c : ℕ) (failures : List (Option ℕ)) → IfSome most (RoseAtMost a c) → RoseBy a c (failed_count failures)
+    → IsAtMost most (failed_count failures)
+few_of most a c failures known paid = few_at most true a c failures (all_most most a c known) (λ is. paid)
+
 -- The transcript was written, or a prefix of one.
-written : {K : Type 0} (ample : Bool) (told : ToldBySink K) (d : Desk) (lines : ℕ → List (List ℕ)) (popped : List Message) (sink sink' : K)
-    (console : Kept) (tally : Tally) (output : Option SinkFault) → ((k : ℕ) → SentAt lines k (of_place k popped))
-    → HasAnswered ample told d popped sink sink' console tally output
-    → HasWrittenTranscript ample told d (by_number lines) sink sink' console tally output
-written ample told d lines popped sink sink' console tally None sent a =
+written : {K : Type 0} (most : Option ℕ) (first last : ℕ) (told : ToldBySink K) (d : Desk) (lines : ℕ → List (List ℕ)) (popped : List Message)
+    (sink sink' : K) (console : Kept) (tally : Tally) (output : Option SinkFault) → ((k : ℕ) → SentAt lines k (of_place k popped))
+    → IfSome most (RoseAtMost first last) → HasAnswered first last told d popped sink sink' console tally output
+    → HasWrittenTranscript most told d (by_number lines) sink sink' console tally output
+written most first last told d lines popped sink sink' console tally None sent known a =
     let alike = alike_said lines popped (all_true lines popped sent) in
     let same : a.now ≡ crew_session d (true_entries lines popped) a.failures =
     sym a.done.is ∙ same_session d a.failures (said popped) (true_entries lines popped) alike in record {
       entries = true_entries lines popped;
       merged = merged lines popped sent;
       failures = a.failures;
-      allows = allows_alike ample a.failures (begin_at (begun d)) (said popped) (true_entries lines popped) alike a.done.allows;
+      allows = record {
+        allows = allows_alike a.failures (begin_at (begun d)) (said popped) (true_entries lines popped) alike a.done.allows;
+        few = few_of most first last a.failures known a.done.few;
+      };
       text = subst (λ (s : Session DeskState). Appends (told.holds sink) (told.holds sink') s.text) same a.text;
       counts = sym a.counts ∙ ap (λ (s : Session DeskState). s.counts) same;
       stands = subst (λ (s : Session DeskState). StandsFor s.state.desk console) same a.stands;
     }
-written ample told d lines popped sink sink' console tally (Some fault) sent a =
+written most first last told d lines popped sink sink' console tally (Some fault) sent known a =
     let h = told.holds sink in
     let h' = told.holds sink' in
     let xs = said a.first in
@@ -120,14 +128,17 @@ written ample told d lines popped sink sink' console tally (Some fault) sent a =
         entries = ys;
         merged = merged_so_far lines popped a.first a.rest sent a.are;
         failures = a.failures;
-        allows = allows_alike ample a.failures (begin_at (begun d)) xs ys alike a.allows;
+        allows = record {
+          allows = allows_alike a.failures (begin_at (begun d)) xs ys alike a.allows;
+          few = few_of most first last a.failures known a.few;
+        };
         text = subst (λ (s : Session DeskState). AppendsFront h h' s.text) (same_session d a.failures xs ys alike) a.text;
         earlier = subst (λ (s : Session DeskState). AppendsAtLeast h h' s.text) (same_before d a.failures xs ys alike) a.earlier;
       };
       stopped = stopped_at told d xs ys a.failures sink sink' console alike a.stopped;
     }
 
-pub crewed : {S K : Type 0} (ample : Bool) (told_in : ToldBySource S) (told_out : ToldBySink K) (Its : Pass Message View → Type 0) (d : Desk)
+pub crewed : {S K : Type 0} (most : Option ℕ) (first last : ℕ) (told_in : ToldBySource S) (told_out : ToldBySink K) (Its : Pass Message View → Type 0) (d : Desk)
     (places places' : List (Option S)) (sink sink' : K) (console : Kept) (tally : Tally) (output : Option SinkFault)
     (told : List (Option OperatorFault)) (ys : List (Operator S)) (popped items : List Message) (n : ℕ)
     → EachAt (Retired told_in Its places) ys → length ys ≡ n → n ≡ length places → Learned
@@ -135,10 +146,10 @@ pub crewed : {S K : Type 0} (ample : Bool) (told_in : ToldBySource S) (told_out 
     → ((k : ℕ) → k < n → has_last (of_place k popped) ≡ true) → length places' ≡ length places
     → EachAt (λ k y. slice_get places' k ≡ Some (Some y.source)) ys → EachAt (λ k y. slice_get told k ≡ Some y.fault) ys
     → ((place : ℕ) (fault : OperatorFault) → slice_get told place ≡ Some (Some fault) → place < length places)
-    → HasAnswered ample told_out d popped sink sink' console tally output
-    → HasCrewed ample told_in told_out d places places' sink sink' console tally output told
-crewed ample told_in told_out Its d places places' sink sink' console tally output told ys popped items n h len all learned ended same back
-    says others answered =
+    → IfSome most (RoseAtMost first last) → HasAnswered first last told_out d popped sink sink' console tally output
+    → HasCrewed most told_in told_out d places places' sink sink' console tally output told
+crewed most first last told_in told_out Its d places places' sink sink' console tally output told ys popped items n h len all learned ended same back
+    says others known answered =
     let count : length ys ≡ length places = len ∙ all in
     let lines = lines_of told_in Its places ys h in record {
       lines = by_number lines;
@@ -148,6 +159,6 @@ crewed ample told_in told_out Its d places places' sink sink' console tally outp
       none = refl;
       no_more = no_more told_in Its places ys h count;
       others = others;
-      written = written ample told_out d lines popped sink sink' console tally output
-          (λ k. sent_at told_in Its places ys h popped items n len learned ended k (cases_lt k (length ys))) answered;
+      written = written most first last told_out d lines popped sink sink' console tally output
+          (λ k. sent_at told_in Its places ys h popped items n len learned ended k (cases_lt k (length ys))) known answered;
     }

@@ -47,10 +47,10 @@ cause_then told a b c x y z p q =
     }
 
 -- nothing was answered, and nothing was written
-pub answered_same : {K : Type 0} (told : ToldBySink K) (sink sink' : K) (ample : Bool) (d : Desk) (popped : List Message) (start : K)
+pub answered_same : {K : Type 0} (told : ToldBySink K) (sink sink' : K) (before now : ℕ) (d : Desk) (popped : List Message) (start : K)
     (console console' : Kept) (tally tally' : Tally) (output output' : Option SinkFault) → sink' ≡ sink → console' ≡ console
-    → tally' ≡ tally → output' ≡ output → HasAnswered ample told d popped start sink console tally output
-    → HasAnswered ample told d popped start sink' console' tally' output'
-answered_same {K} told sink sink' ample d popped start console console' tally tally' output output' s c t o so_far =
-    subst (λ (x : K × Kept × Tally × Option SinkFault). HasAnswered ample told d popped start x.0 x.1 x.2 x.3)
+    → tally' ≡ tally → output' ≡ output → HasAnswered before now told d popped start sink console tally output
+    → HasAnswered before now told d popped start sink' console' tally' output'
+answered_same {K} told sink sink' before now d popped start console console' tally tally' output output' s c t o so_far =
+    subst (λ (x : K × Kept × Tally × Option SinkFault). HasAnswered before now told d popped start x.0 x.1 x.2 x.3)
     (λ i. (sym s i, sym c i, sym t i, sym o i)) so_far

@@ -28,8 +28,8 @@ pub use Rattle.lx_io.specs.declared.sink.SinkFault.{SinkFault}
 pub use Rattle.lx_io.specs.Told.{ToldBySink, ToldBySource}
 pub use Rattle.lx_lex.proofs.HandingOut.{handed_none, handed_one, handed_then}
 pub use Rattle.lx_session.proofs.HeardLines.{extends_line, meaning_is}
-pub use Rattle.lx_session.proofs.Stood.{stood_since, stood_until}
-pub use Rattle.lx_session.specs.Spared.{HasStood, IsAmple, MayFailUnless, spared}
+pub use Rattle.lx_session.proofs.Refusals.{all_most, few_at, known_since, pays_on, take_at}
+pub use Rattle.lx_session.specs.Spared.{failed_count, IsAmple, IsAtMost, RoseAtMost, RoseBy}
 pub use Rattle.lx_session.specs.declared.tally.Tally.{Tally}
 pub use Rattle.lx_spec.specs.CrewText.{after_entry, crew_answering, crew_session, crew_text, CrewEntry, Merged, MergedSoFar, named, numbered_from}
 pub use Rattle.lx_spec.specs.CrewText.{of_operator, op_text}

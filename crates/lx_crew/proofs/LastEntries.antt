@@ -1,5 +1,5 @@
 -- The last of the entries of a transcript, and those before it.
-use Rattle.lx_crew.proofs.Imports.{◌≡◌, ℕ, ◌-◌, Bool, Option, None, List, [], ◌∷◌, ◌++◌, length, take, drop, sym, ap, ◌∙◌}
+use Rattle.lx_crew.proofs.Imports.{◌≡◌, ℕ, ◌-◌, Option, None, List, [], ◌∷◌, ◌++◌, length, take, drop, sym, ap, ◌∙◌}
 use Rattle.lx_crew.proofs.Imports.{subst}
 use Rattle.lx_crew.proofs.Imports.{append-nil, append_assoc, arith, length-append, take-append-drop, Appends, AppendsAtLeast}
 use Rattle.lx_crew.proofs.Imports.{CrewEntry, op_text, named, after_entry, crew_answering, crew_session, crew_text, Desk, line_of, Session}
@@ -22,8 +22,8 @@ one_alone : {A : Type 0} (xs : List A) (x : A) → last_alone (xs ++ x ∷ []) �
 one_alone xs x = drop_at xs (x ∷ []) (length (xs ++ x ∷ []) - 1) (omega (arith, length-append xs (x ∷ [])))
 
 -- What is told of one entry more changes nothing of the session before it.
-module _ {ample : Bool} {d : Desk} {entries : List CrewEntry} {failures : List (Option ℕ)} {now : Session DeskState}
-    (more : List (Option ℕ)) (e : CrewEntry) (done : IsDoneWithEntries ample d entries failures now) where
+module _ {refusals refusals' : ℕ} {d : Desk} {entries : List CrewEntry} {failures : List (Option ℕ)} {now : Session DeskState}
+    (more : List (Option ℕ)) (e : CrewEntry) (done : IsDoneWithEntries refusals refusals' d entries failures now) where
   pub session_before : crew_session d (all_but_last (entries ++ e ∷ [])) (failures ++ more) ≡ now
   session_before = each-before crew_answering failures more (begin_at (begun d)) entries e done.each ∙ done.is
 

@@ -4,7 +4,7 @@ use Rattle.lx_crew.proofs.Imports.{refl, sym, ap, ◌∙◌, append-nil, ◌⊎�
 use Rattle.lx_crew.proofs.Imports.{AllByRecursion, filter-append, map, map-append, length-map, CrewEntry, op_text, after_entry, crew_answering, crew_session}
 use Rattle.lx_crew.proofs.Imports.{Desk, line_of, Session, begin_at, with_text, after_each, AreAllowed, DeskState, begun, after_meaning, IsAcceptedEdit}
 use Rattle.lx_crew.proofs.Imports.{meaning_is, Message, Sent, Line, LongLine, End, ReadFault, InputTooLong, named_line, entries_of, said, of_place, is_last}
-use Rattle.lx_crew.proofs.Imports.{HasText, HaveLines, of_operator, numbered_from, Merged, MergedSoFar, MayFailUnless, spared, length, all_but_last}
+use Rattle.lx_crew.proofs.Imports.{HasText, HaveLines, of_operator, numbered_from, Merged, MergedSoFar, length, all_but_last}
 use Rattle.lx_crew.proofs.Imports.{last_alone, text_to_last_name, take-append_seam}
 use Rattle.std.specs.Prelude.{flat_map, not}
 use Rattle.std.specs.List.{filter}
@@ -70,17 +70,17 @@ session_alike : (failures : List (Option ℕ)) (s : Session DeskState) (xs ys : 
 session_alike failures s xs ys alike =
     session_of_keys failures s xs ∙ ap (after_each by_keys failures s) alike ∙ sym (session_of_keys failures s ys)
 
-pub allows_alike : (ample : Bool) (failures : List (Option ℕ)) (s : Session DeskState) (xs ys : List CrewEntry) → Alike xs ys
-    → AreAllowed (spared ample crew_answering) failures s xs → AreAllowed (spared ample crew_answering) failures s ys
-allows_alike ample [] s xs ys alike a = tt
-allows_alike ample (failed ∷ failures) s xs [] alike a = tt
-allows_alike ample (failed ∷ failures) s [] (y ∷ ys) alike a = absurd cc
-allows_alike ample (failed ∷ failures) s (x ∷ xs) (y ∷ ys) alike a =
+pub allows_alike : (failures : List (Option ℕ)) (s : Session DeskState) (xs ys : List CrewEntry) → Alike xs ys
+    → AreAllowed crew_answering failures s xs → AreAllowed crew_answering failures s ys
+allows_alike [] s xs ys alike a = tt
+allows_alike (failed ∷ failures) s xs [] alike a = tt
+allows_alike (failed ∷ failures) s [] (y ∷ ys) alike a = absurd cc
+allows_alike (failed ∷ failures) s (x ∷ xs) (y ∷ ys) alike a =
     let key : key_of x ≡ key_of y = cc in
     let rest : Alike xs ys = cc in (
-      subst (λ (k : Key). IfSome failed (λ attempt. MayFailUnless ample (IsAcceptedEdit s.state.desk k.1))) key a.0,
-      allows_alike ample failures (after_entry failed s y) xs ys rest
-          (subst (λ (k : Key). AreAllowed (spared ample crew_answering) failures (after_meaning failed (with_text s k.0) k.1) xs) key a.1),
+      subst (λ (k : Key). IfSome failed (λ attempt. IsAcceptedEdit s.state.desk k.1)) key a.0,
+      allows_alike failures (after_entry failed s y) xs ys rest
+          (subst (λ (k : Key). AreAllowed crew_answering failures (after_meaning failed (with_text s k.0) k.1) xs) key a.1),
     )
 
 -- So are those of all of them but the last, and the last.

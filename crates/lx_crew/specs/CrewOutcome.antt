@@ -1,5 +1,5 @@
 -- What a crew comes to.
-use Rattle.std.specs.Prelude.{◌≡◌, ℕ, ◌+◌, ◌<◌, Bool, List, [], length, Option, Some, None, slice_get}
+use Rattle.std.specs.Prelude.{◌≡◌, ℕ, ◌+◌, ◌<◌, List, [], length, Option, Some, None, slice_get}
 use Rattle.lx_io.specs.declared.sink.SinkFault.{SinkFault}
 use Rattle.lx_io.specs.Told.{ToldBySink, ToldBySource}
 use Rattle.lx_spec.specs.Desk.{Desk}
@@ -19,15 +19,15 @@ pub record ScriptIsBack {S : Type 0} (told_in : ToldBySource S) (places : List (
   pub ended : ScriptHasEnded told_in start source fault lines
 
 -- the transcript, or a prefix of one where the output had a fault, and then no line behind it is done
-abbrev pub HasWrittenTranscript : {K : Type 0} → (ample : Bool) → ToldBySink K → Desk → (ℕ → List (List ℕ)) → (sink sink' : K) → Kept → Tally
+abbrev pub HasWrittenTranscript : {K : Type 0} → (most : Option ℕ) → ToldBySink K → Desk → (ℕ → List (List ℕ)) → (sink sink' : K) → Kept → Tally
     → Option SinkFault → Type 0
-HasWrittenTranscript ample told d lines sink sink' console tally None =
-    WholeTranscript ample d lines (told.holds sink) (told.holds sink') console tally
-HasWrittenTranscript ample told d lines sink sink' console tally (Some fault) = StoppedTranscript ample told d lines sink sink' console
+HasWrittenTranscript most told d lines sink sink' console tally None =
+    WholeTranscript most d lines (told.holds sink) (told.holds sink') console tally
+HasWrittenTranscript most told d lines sink sink' console tally (Some fault) = StoppedTranscript most told d lines sink sink' console
 
 -- Each place has its source again. `lines` are each operator's, which are numbered from 1; past them there are none, and no fault is told.
--- Where memory was ample no attempt failed.
-pub record HasCrewed {S K : Type 0} (ample : Bool) (told_in : ToldBySource S) (told_out : ToldBySink K) (d : Desk)
+-- No more of their lines failed than so many, where a number is known.
+pub record HasCrewed {S K : Type 0} (most : Option ℕ) (told_in : ToldBySource S) (told_out : ToldBySink K) (d : Desk)
     (places places' : List (Option S)) (sink sink' : K) (console : Kept) (tally : Tally) (output : Option SinkFault)
     (told : List (Option OperatorFault)) : Type 0 where
   pub lines : ℕ → List (List ℕ)
@@ -37,4 +37,4 @@ pub record HasCrewed {S K : Type 0} (ample : Bool) (told_in : ToldBySource S) (t
   pub none : lines 0 ≡ []
   pub no_more : (operator : ℕ) → length places < operator → lines operator ≡ []
   pub others : (place : ℕ) (fault : OperatorFault) → slice_get told place ≡ Some (Some fault) → place < length places
-  pub written : HasWrittenTranscript ample told_out d lines sink sink' console tally output
+  pub written : HasWrittenTranscript most told_out d lines sink sink' console tally output

@@ -9,7 +9,7 @@ use Rattle.lx_io.specs.Causes.{Rose}
 use Rattle.lx_io.specs.Puts.{AppendsFront}
 use Rattle.lx_io.specs.Told.{ToldBySink}
 use Rattle.lx_spec.specs.declared.Line.{Line as Meant}
-use Rattle.lx_spec.specs.CrewText.{CrewEntry, crew_session, crew_text}
+use Rattle.lx_spec.specs.CrewText.{CrewAllows, CrewEntry, crew_session, crew_text}
 use Rattle.lx_spec.specs.Desk.{Desk}
 use Rattle.lx_spec.specs.Kept.{Kept}
 use Rattle.lx_spec.specs.Session.{Session, with_text}
@@ -17,7 +17,7 @@ use Rattle.lx_spec.specs.DeskSession.{DeskState}
 use Rattle.lx_console.specs.ConsoleMeaning.{StandsFor}
 use Rattle.lx_session.specs.declared.tally.Tally.{Tally}
 use Rattle.lx_session.specs.LineAnswer.{SparedAnswer}
-use Rattle.lx_session.specs.Spared.{HasStood, IsAmple}
+use Rattle.lx_session.specs.Spared.{failed_count, IsAmple, RoseBy}
 use Rattle.lx_session.specs.LineReply.{counts_in}
 use Rattle.lx_crew.specs.declared.entry.Message.{Message}
 use Rattle.lx_crew.specs.declared.entry.Sent.{Sent}
@@ -25,7 +25,7 @@ use Rattle.lx_crew.specs.declared.entry.Sent.TheVariants.{Line, LongLine, End, R
 use Rattle.lx_crew.specs.declared.rule.View.{View}
 use Rattle.lx_crew.specs.Entries.{text_in, of_place, is_last, has_last}
 use Rattle.lx_crew.specs.Rule.{engine_view, Takes}
-use Rattle.lx_crew.specs.Transcripts.{AppendsAtLeast, CrewAllowsBy, HasStopped, NoneFailed, all_but_last}
+use Rattle.lx_crew.specs.Transcripts.{AppendsAtLeast, HasStopped, NoneFailed, all_but_last}
 use Rattle.std.specs.Prelude.{slice_get}
 
 -- Stands for the text of any line of more than 4,096 bytes: each is bad.
@@ -63,19 +63,22 @@ AnswersNamed refusals refusals' told sink sink' result s name meaning console ta
     (IsErr result × AppendsFront (told.holds sink) (told.holds sink') name × StandsFor s.state.desk console)
     ⊎ NamedAnswer refusals refusals' told sink sink' result s name meaning console tally
 
--- The entries are done from a desk on, of each is told which attempt failed, if one did, and the session has come so far.
-pub record IsDoneWithEntries (ample : Bool) (d : Desk) (entries : List CrewEntry) (failures : List (Option ℕ)) (now : Session DeskState)
+-- The entries are done from a desk on, of each is told which attempt failed, if one did, and the session has come so far. As many calls as
+-- lines that failed were refused by the heap.
+pub record IsDoneWithEntries (refusals refusals' : ℕ) (d : Desk) (entries : List CrewEntry) (failures : List (Option ℕ)) (now : Session DeskState)
     : Type 0 where
   pub each : length failures ≡ length entries
   pub is : crew_session d entries failures ≡ now
-  pub allows : CrewAllowsBy ample d entries failures
+  pub allows : CrewAllows d entries failures
+  pub few : RoseBy refusals refusals' (failed_count failures)
 
--- What was popped is answered, its whole transcript was written, and no write and no flush failed.
-pub record AnsweredAll {K : Type 0} (ample : Bool) (told : ToldBySink K) (d : Desk) (popped : List Message) (sink sink' : K) (console : Kept)
-    (tally : Tally) : Type 0 where
+-- What was popped is answered, its whole transcript was written, and no write and no flush failed. `refusals` is the heap's count before it,
+-- and `refusals'` that behind it.
+pub record AnsweredAll {K : Type 0} (refusals refusals' : ℕ) (told : ToldBySink K) (d : Desk) (popped : List Message) (sink sink' : K)
+    (console : Kept) (tally : Tally) : Type 0 where
   pub failures : List (Option ℕ)
   pub now : Session DeskState
-  pub done : IsDoneWithEntries ample d (said popped) failures now
+  pub done : IsDoneWithEntries refusals refusals' d (said popped) failures now
   pub text : Appends (told.holds sink) (told.holds sink') now.text
   pub none_failed : NoneFailed told sink sink'
   pub counts : now.counts ≡ counts_in tally
@@ -83,22 +86,24 @@ pub record AnsweredAll {K : Type 0} (ample : Bool) (told : ToldBySink K) (d : De
 
 -- The first of what was popped is answered, up to a fault of the output: a prefix of its transcript was written, and of all of it but the
 -- last it was written whole. No line of the rest is done.
-pub record AnsweredPart {K : Type 0} (ample : Bool) (told : ToldBySink K) (d : Desk) (popped : List Message) (sink sink' : K) (console : Kept)
-    : Type 0 where
+pub record AnsweredPart {K : Type 0} (refusals refusals' : ℕ) (told : ToldBySink K) (d : Desk) (popped : List Message) (sink sink' : K)
+    (console : Kept) : Type 0 where
   pub first : List Message
   pub rest : List Message
   pub are : popped ≡ first ++ rest
   pub failures : List (Option ℕ)
-  pub allows : CrewAllowsBy ample d (said first) failures
+  pub allows : CrewAllows d (said first) failures
+  pub few : RoseBy refusals refusals' (failed_count failures)
   pub text : AppendsFront (told.holds sink) (told.holds sink') (crew_text d (said first) failures)
   pub earlier : AppendsAtLeast (told.holds sink) (told.holds sink') (crew_text d (all_but_last (said first)) failures)
   pub stopped : HasStopped told d (said first) failures sink sink' console
 
 -- by the fault of the output
-abbrev pub HasAnswered : {K : Type 0} → (ample : Bool) → ToldBySink K → Desk → List Message → (sink sink' : K) → Kept → Tally
+abbrev pub HasAnswered : {K : Type 0} → (refusals refusals' : ℕ) → ToldBySink K → Desk → List Message → (sink sink' : K) → Kept → Tally
     → Option SinkFault → Type 0
-HasAnswered ample told d popped sink sink' console tally None = AnsweredAll ample told d popped sink sink' console tally
-HasAnswered ample told d popped sink sink' console tally (Some fault) = AnsweredPart ample told d popped sink sink' console
+HasAnswered refusals refusals' told d popped sink sink' console tally None = AnsweredAll refusals refusals' told d popped sink sink' console tally
+HasAnswered refusals refusals' told d popped sink sink' console tally (Some fault) =
+    AnsweredPart refusals refusals' told d popped sink sink' console
 
 -- Neither count of the output has fallen, and a fault that is new comes only where its own count rose. Where there is none now, there was
 -- none before, and both counts stand as they were.
@@ -120,9 +125,9 @@ pub record NextEntry {K : Type 0} (refusals refusals' : ℕ) (told : ToldBySink 
   pub entry : Message
   pub takes : Takes v entry w
   pub marked : Marked entry ended ended'
-  pub answered : (ample : Bool) → (ample ≡ true → HasStood refusals refusals') → (d : Desk) (popped : List Message) (start : K)
-      → HasAnswered ample told d popped start sink console tally output
-      → HasAnswered ample told d (popped ++ entry ∷ []) start sink' console' tally' output'
+  pub answered : (before : ℕ) (d : Desk) (popped : List Message) (start : K)
+      → HasAnswered before refusals told d popped start sink console tally output
+      → HasAnswered before refusals' told d (popped ++ entry ∷ []) start sink' console' tally' output'
 
 -- The engine took entries to the last of each operator and answered them. Where the output had no fault it keeps nothing back.
 pub record HasServedEntries {K : Type 0} (refusals refusals' : ℕ) (told : ToldBySink K) (operators : ℕ) (v : View)
@@ -131,7 +136,6 @@ pub record HasServedEntries {K : Type 0} (refusals refusals' : ℕ) (told : Told
   pub view : v ≡ engine_view operators popped []
   pub ended : (k : ℕ) → k < operators → has_last (of_place k popped) ≡ true
   pub later : refusals ≤ refusals'
-  pub answered : (ample : Bool) → (ample ≡ true → HasStood refusals refusals') → (d : Desk) → StandsFor d console
-      → HasAnswered ample told d popped sink sink' console' tally output
+  pub answered : (d : Desk) → StandsFor d console → HasAnswered refusals refusals' told d popped sink sink' console' tally output
   pub cause : OutputCause told sink sink' None output
   pub handed_on : output ≡ None → told.back sink' ≡ []

@@ -6,7 +6,7 @@ pub use Rattle.lx_spec.specs.Desk.{Desk}
 pub use Rattle.lx_session.specs.LineState.{meaning_of}
 pub use Rattle.lx_session.specs.LineReply.{TallyHasRoom, HasOneMore}
 pub use Rattle.lx_session.specs.LineAnswer.{FromDesk}
-pub use Rattle.lx_session.specs.Spared.{HasStood}
+pub use Rattle.lx_session.specs.Spared.{ByRefusals}
 pub use Rattle.crossbeam_queue.specs.Passes.{view, IsPassOf, IsSamePass}
 pub use Rattle.lx_io.specs.Causes.{Rose}
 pub use Rattle.lx_console.specs.ConsoleMeaning.{StandsFor}

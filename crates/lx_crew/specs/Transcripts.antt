@@ -1,30 +1,30 @@
 -- The transcript of a crew: each operator's lines, numbered from 1, in some order with those of the others.
-use Rattle.std.specs.Prelude.{◌≡◌, ◌⊎◌, ℕ, ◌-◌, Bool, List, ◌++◌, Option, length, take, drop, flat_map}
+use Rattle.std.specs.Prelude.{◌≡◌, ◌⊎◌, ℕ, ◌-◌, List, ◌++◌, Option, length, take, drop, flat_map}
 use Rattle.std.specs.Io.KnownBytes.{Appends}
 use Rattle.lx_io.specs.Puts.{AppendsFront}
 use Rattle.lx_io.specs.Told.{ToldBySink}
-use Rattle.lx_spec.specs.CrewText.{CrewEntry, Merged, MergedSoFar, crew_answering, crew_session, crew_text, op_text}
-use Rattle.lx_spec.specs.Session.{AreAllowed, begin_at}
-use Rattle.lx_spec.specs.DeskSession.{begun}
+use Rattle.lx_spec.specs.CrewText.{CrewAllows, CrewEntry, Merged, MergedSoFar, crew_session, crew_text, op_text}
 use Rattle.lx_spec.specs.Desk.{Desk}
 use Rattle.lx_spec.specs.Kept.{Kept}
 use Rattle.lx_console.specs.ConsoleMeaning.{StandsFor}
 pub use Rattle.lx_session.specs.Known.{AppendsAtLeast}
 use Rattle.lx_session.specs.declared.tally.Tally.{Tally}
 use Rattle.lx_session.specs.LineReply.{counts_in}
-use Rattle.lx_session.specs.Spared.{spared}
+use Rattle.lx_session.specs.Spared.{failed_count, IsAtMost}
 
--- In the session of a crew attempts failed only at edits that may take memory and that the desk accepts, and where memory was ample none did.
-abbrev pub CrewAllowsBy : (ample : Bool) → Desk → List CrewEntry → List (Option ℕ) → Type 0
-CrewAllowsBy ample d entries failures = AreAllowed (spared ample crew_answering) failures (begin_at (begun d)) entries
+-- In the session of a crew attempts failed only at edits that may take memory and that the desk accepts, and of no more lines than so many,
+-- where a number is known.
+pub record CrewAllowsBy (most : Option ℕ) (d : Desk) (entries : List CrewEntry) (failures : List (Option ℕ)) : Type 0 where
+  pub allows : CrewAllows d entries failures
+  pub few : IsAtMost most (failed_count failures)
 
 -- The whole transcript was written, and the console stands for the desk after it. Attempts failed only at edits that may take memory.
-pub record WholeTranscript (ample : Bool) (d : Desk) (lines : ℕ → List (List ℕ)) (held held' : Option (List ℕ)) (console : Kept)
+pub record WholeTranscript (most : Option ℕ) (d : Desk) (lines : ℕ → List (List ℕ)) (held held' : Option (List ℕ)) (console : Kept)
     (tally : Tally) : Type 0 where
   pub entries : List CrewEntry
   pub merged : Merged lines entries
   pub failures : List (Option ℕ)
-  pub allows : CrewAllowsBy ample d entries failures
+  pub allows : CrewAllowsBy most d entries failures
   pub text : Appends held held' (crew_text d entries failures)
   pub counts : counts_in tally ≡ (crew_session d entries failures).counts
   pub stands : StandsFor (crew_session d entries failures).state.desk console
@@ -37,11 +37,11 @@ abbrev pub last_alone : {A : Type 0} → List A → List A
 last_alone xs = drop (length xs - 1) xs
 
 -- A prefix of the transcript of first lines was written, and of all of them but the last it was written whole.
-pub record TranscriptPrefix (ample : Bool) (d : Desk) (lines : ℕ → List (List ℕ)) (held held' : Option (List ℕ)) : Type 0 where
+pub record TranscriptPrefix (most : Option ℕ) (d : Desk) (lines : ℕ → List (List ℕ)) (held held' : Option (List ℕ)) : Type 0 where
   pub entries : List CrewEntry
   pub merged : MergedSoFar lines entries
   pub failures : List (Option ℕ)
-  pub allows : CrewAllowsBy ample d entries failures
+  pub allows : CrewAllowsBy most d entries failures
   pub text : AppendsFront held held' (crew_text d entries failures)
   pub earlier : AppendsAtLeast held held' (crew_text d (all_but_last entries) failures)
 
@@ -80,7 +80,7 @@ HasStopped told d entries failures sink sink' console =
     LastIsDone told d entries failures sink sink' console ⊎ LastIsNamed told d entries failures sink sink' console
 
 -- A prefix of the transcript of first lines was written, and no line behind these is done.
-pub record StoppedTranscript {K : Type 0} (ample : Bool) (told : ToldBySink K) (d : Desk) (lines : ℕ → List (List ℕ)) (sink sink' : K)
+pub record StoppedTranscript {K : Type 0} (most : Option ℕ) (told : ToldBySink K) (d : Desk) (lines : ℕ → List (List ℕ)) (sink sink' : K)
     (console : Kept) : Type 0 where
-  pub prefix : TranscriptPrefix ample d lines (told.holds sink) (told.holds sink')
+  pub prefix : TranscriptPrefix most d lines (told.holds sink) (told.holds sink')
   pub stopped : HasStopped told d prefix.entries prefix.failures sink sink' console

@@ -1,8 +1,8 @@
 //! The answer to one entry.
 #![tactic(auto, using(lx_io::proofs::Chain::puts))]
 
-ghost use Rattle.std.specs.Prelude.{◌≡◌, ◌≤◌, ◌+◌, None, Some, Bool, true, List, ℕ, ◌++◌, ◌∷◌, [], option_copied};
-ghost use Rattle.lx_crew.specs.Imports.{Puts, HasSinkCause, op_text, Desk, meaning_of, TallyHasRoom, HasOneMore, FromDesk, HasStood};
+ghost use Rattle.std.specs.Prelude.{◌≡◌, ◌≤◌, ◌+◌, None, Some, List, ℕ, ◌++◌, ◌∷◌, [], option_copied};
+ghost use Rattle.lx_crew.specs.Imports.{Puts, HasSinkCause, op_text, Desk, meaning_of, TallyHasRoom, HasOneMore, FromDesk};
 ghost use Rattle.lx_crew.specs.Imports.{AnswersNamed, HasAnswered, OutputCause, named_line};
 ghost use Rattle.lx_crew.specs.declared.entry.Message.{Message as AnEntry};
 
@@ -56,9 +56,9 @@ pub(crate) fn answer_entry<H: Heap, K: Sink>(
     output: &mut Option<SinkFault>,
 )
     requires room { TallyHasRoom tally.old }
-    ensures answered { (ample : Bool) → (ample ≡ true → HasStood (H.refusals heap.old) (H.refusals heap.new)) → (d : Desk)
-        (popped : List AnEntry) (start : _) → HasAnswered ample K.Sink d popped start sink.old console.old tally.old output.old
-        → HasAnswered ample K.Sink d (popped ++ entry.now ∷ []) start sink.new console.new tally.new output.new }
+    ensures answered { (before : ℕ) (d : Desk) (popped : List AnEntry) (start : _)
+        → HasAnswered before (H.refusals heap.old) K.Sink d popped start sink.old console.old tally.old output.old
+        → HasAnswered before (H.refusals heap.new) K.Sink d (popped ++ entry.now ∷ []) start sink.new console.new tally.new output.new }
     ensures cause { OutputCause K.Sink sink.old sink.new output.old output.new }
     ensures more { HasOneMore tally.old tally.new }
     ensures later { H.refusals heap.old ≤ H.refusals heap.new }
@@ -76,9 +76,9 @@ pub(crate) fn answer_entry<H: Heap, K: Sink>(
 
 /// Hands on what the output keeps back, unless it had a fault. Without one nothing is kept back any more.
 pub(crate) fn flush<K: Sink>(sink: &mut K, output: &mut Option<SinkFault>)
-    ensures answered { (ample : Bool) (d : Desk) (popped : List AnEntry) (start : _) (console : _) (tally : _)
-        → HasAnswered ample K.Sink d popped start sink.old console tally output.old
-        → HasAnswered ample K.Sink d popped start sink.new console tally output.new }
+    ensures answered { (before now : ℕ) (d : Desk) (popped : List AnEntry) (start : _) (console : _) (tally : _)
+        → HasAnswered before now K.Sink d popped start sink.old console tally output.old
+        → HasAnswered before now K.Sink d popped start sink.new console tally output.new }
     ensures cause { OutputCause K.Sink sink.old sink.new output.old output.new }
     ensures handed_on { output.new ≡ None → K.back sink.new ≡ [] }
 {

@@ -1,8 +1,8 @@
 //! A crew: the engine and the operators at the same time.
 
-ghost use Rattle.std.specs.Prelude.{◌≡◌, ◌+◌, ◌<◌, ◌≤◌, ◌⊎◌, ℕ, Bool, List, [], ◌++◌, ◌∷◌, length, map, true, false, slice_get, Some, None};
+ghost use Rattle.std.specs.Prelude.{◌≡◌, ◌+◌, ◌<◌, ◌≤◌, ◌⊎◌, ℕ, List, [], ◌++◌, ◌∷◌, length, map, true, false, slice_get, Some, None};
 ghost use Rattle.std.specs.Prelude.{IfOk, OnErr, IsSome, vec_len, vec_capacity};
-ghost use Rattle.lx_crew.specs.Imports.{All, AllZip, view, IsPassOf, IsSamePass, Rose, Desk, HasStood, StandsFor, engine_view};
+ghost use Rattle.lx_crew.specs.Imports.{All, AllZip, view, IsPassOf, IsSamePass, Rose, Desk, ByRefusals, StandsFor, engine_view};
 ghost use Rattle.lx_crew.specs.Imports.{HasServedEntries, OutputCause, HasCrewed, EachAt, HasRunOperator, Hired, HasSentNothing, Works};
 ghost use Rattle.lx_crew.specs.Imports.{owned};
 ghost use Rattle.lx_base.specs.declared.TheConstants.{OPERATORS};
@@ -52,7 +52,7 @@ pub fn crew<R: Threads + Wait + Sync, S: Source + Send + Drop, K: Sink + Send>(
     requires most { length operators.old ≤ OPERATORS }
     requires full { EachAt (λ k place. IsSome place) operators.old }
     ensures err { OnErr result ((console.new ≡ console.old) × ((sink.new ≡ sink.old) × (operators.new ≡ operators.old))) }
-    ensures crewed { IfOk result (λ c. (d : Desk) → StandsFor d console.old → HasCrewed false S.Source K.Sink d operators.old
+    ensures crewed { IfOk result (λ c. (d : Desk) → StandsFor d console.old → HasCrewed None S.Source K.Sink d operators.old
         operators.new sink.old sink.new console.new c.tally c.output c.operators) }
     ensures cause { IfOk result (λ c. OutputCause K.Sink sink.old sink.new None c.output) }
     ensures handed_on { IfOk result (λ c. c.output ≡ None → K.back sink.new ≡ []) }
@@ -62,8 +62,8 @@ pub fn crew<R: Threads + Wait + Sync, S: Source + Send + Drop, K: Sink + Send>(
     crew_in(rt, &mut heap, &mut queues, console, operators, sink)
 }
 
-/// The same, by heaps. `AllocError` comes only where one of them refused memory in this call, and an edit is refused with `Memory`
-/// only where the first did.
+/// The same, by heaps. `AllocError` comes only where one of them refused memory in this call, and at most as many lines as the first
+/// refused calls were refused with `Memory`.
 pub fn crew_in<R: Threads + Wait + Sync, H: Heap + Send, S: Source + Send + Drop, K: Sink + Send>(
     rt: &R,
     heap: &mut H,
@@ -76,9 +76,9 @@ pub fn crew_in<R: Threads + Wait + Sync, H: Heap + Send, S: Source + Send + Drop
     requires most { length operators.old ≤ OPERATORS }
     requires full { EachAt (λ k place. IsSome place) operators.old }
     ensures err { OnErr result ((console.new ≡ console.old) × ((sink.new ≡ sink.old) × (operators.new ≡ operators.old))) }
-    ensures crewed { (ample : Bool) → (ample ≡ true → HasStood (H.refusals heap.old) (H.refusals heap.new))
-        → IfOk result (λ c. (d : Desk) → StandsFor d console.old → HasCrewed ample S.Source K.Sink d operators.old operators.new
-        sink.old sink.new console.new c.tally c.output c.operators) }
+    ensures crewed { ByRefusals (H.refusals heap.old) (H.refusals heap.new) (λ most.
+        IfOk result (λ c. (d : Desk) → StandsFor d console.old → HasCrewed most S.Source K.Sink d operators.old operators.new
+        sink.old sink.new console.new c.tally c.output c.operators)) }
     ensures cause { IfOk result (λ c. OutputCause K.Sink sink.old sink.new None c.output) }
     ensures handed_on { IfOk result (λ c. c.output ≡ None → K.back sink.new ≡ []) }
     ensures memory { OnErr result (Rose (H.refusals heap.old) (H.refusals heap.new) ⊎ Rose queues.old queues.new) }

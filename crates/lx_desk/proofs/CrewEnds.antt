@@ -3,7 +3,7 @@ use Rattle.lx_desk.proofs.Imports.{◌≡◌, inl, inr, ℕ, Option, Result, Ok,
 use Rattle.lx_desk.proofs.Imports.{subst, arith, Rose, Lines, unread, Form, Crew, TextFault}
 use Rattle.lx_desk.proofs.Imports.{fault_text, Reading, reads, Loaded, ShowFault, reading_of, HasRead, Status}
 use Rattle.lx_desk.proofs.Imports.{RefusedBy, EndsJob, ServesOrWants, HasCrewEnded, WritesFirstLines, WritesCrewFront}
-use Rattle.lx_desk.proofs.Imports.{◌∙◌, ap, same_Some, Some, Bool, false, EndsScript, HasCauseOf, NoOperatorFailed, OperatorFailed, HasCrewCause, ToldBySource}
+use Rattle.lx_desk.proofs.Imports.{◌∙◌, ap, same_Some, Some, None, EndsScript, HasCauseOf, NoOperatorFailed, OperatorFailed, HasCrewCause, ToldBySource}
 use Rattle.lx_desk.specs.declared.desk.Status.TheVariants as status
 use Rattle.lx_desk.proofs.Inputs.{IfSome_then, Says, all_known, both_known, crew_tells, front_nothing, means_of, over_all, read_fits, refusal_ended}
 use Rattle.lx_desk.proofs.Inputs.{refusal_isnt_ok, show_over, unwritten_as}
@@ -13,13 +13,13 @@ use Rattle.lx_desk.proofs.CrewRuns.{no_lines}
 -- a crew over a show that was read
 module _ {form : Form} {count : ℕ} {I S : Type 0} {told_in : ToldBySource I} {told : ToldBySource S} {a b : Lines I} {loaded : Loaded}
     {operators : List (Option S)} {h h' : Option (List ℕ)} (r : HasRead told_in a b form loaded) where
-  pub crew_ended : {ample : Bool} {operators' : List (Option S)} {s : Status} → a.taken ≡ 0 → ServesOrWants ample told loaded.show count operators operators' h h' s
-      → (rest : Option (List ℕ)) → IfSome (unread told_in a) (λ x. HasCrewEnded ample told count form x rest operators operators' h h' s)
+  pub crew_ended : {most : Option ℕ} {operators' : List (Option S)} {s : Status} → a.taken ≡ 0 → ServesOrWants most told loaded.show count operators operators' h h' s
+      → (rest : Option (List ℕ)) → IfSome (unread told_in a) (λ x. HasCrewEnded most told count form x rest operators operators' h h' s)
   crew_ended none served rest = both_known (unread told_in a) r.means.text (read_fits r) (λ x read fits. elim served [
     | inl wants ↦ rw wants.0 (inl (record {
       isnt_ok = λ ok. absurd cc;
       isnt_live = λ live. absurd cc;
-      ended = unwritten_as false (Crew count form) x h h' wants.1.0;
+      ended = unwritten_as None (Crew count form) x h h' wants.1.0;
       untouched = wants.1.1;
     }))
     | inr answered ↦ inr (record { reading = reading_of loaded; read = read; within = omega (arith, none, fits); served = answered })
@@ -32,12 +32,12 @@ module _ {form : Form} {count : ℕ} {I S : Type 0} {told_in : ToldBySource I} {
 
 -- and over one that isn't
 module _ (form : Form) (count : ℕ) where
-  pub refused_ended : {I S : Type 0} (ample : Bool) (told_in : ToldBySource I) (told : ToldBySource S) (a b : Lines I)
+  pub refused_ended : {I S : Type 0} (most : Option ℕ) (told_in : ToldBySource I) (told : ToldBySource S) (a b : Lines I)
       {h h' : Option (List ℕ)} (operators : List (Option S)) {fault : ShowFault} {s : Status}
       → a.taken ≡ 0 → Says form told_in a b fault → RefusedBy h h' fault s
-      → IfSome (unread told_in a) (λ x. HasCrewEnded ample told count form x (told_in.left b.source.now) operators operators h h' s)
-  refused_ended ample told_in told a b operators none says by = IfSome_then (unread told_in a)
-      (refusal_ended false (over_all form told_in a b (Crew count form) (show_over (crew_tells form count)) none) says by) (λ x e. inl (record {
+      → IfSome (unread told_in a) (λ x. HasCrewEnded most told count form x (told_in.left b.source.now) operators operators h h' s)
+  refused_ended most told_in told a b operators none says by = IfSome_then (unread told_in a)
+      (refusal_ended None (over_all form told_in a b (Crew count form) (show_over (crew_tells form count)) none) says by) (λ x e. inl (record {
         isnt_ok = λ ok. refusal_isnt_ok ⊥ by ok;
         isnt_live = λ live. subst EndsJob live (refusal_ends by);
         ended = e;

@@ -2,9 +2,9 @@
 use Rattle.lx_desk.proofs.Imports.{◌≡◌, ◌≢◌, inl, inr, ℕ, zero, suc, ◌+◌, ◌<◌, ◌≤◌, true, false, Option, Some, None, IfSome, IsSome}
 use Rattle.lx_desk.proofs.Imports.{List, [], ◌∷◌, ◌++◌, length, take, drop, slice_get, refl, sym, ap, ◌∙◌, subst, arith, take_all}
 use Rattle.lx_desk.proofs.Imports.{length-append, length-drop, AllByRecursion, position_or_len, same_Some, slice_get_within, SinkFault, Rose}
-use Rattle.lx_desk.proofs.Imports.{lines_of, Show, opened, Kept, ends_script, lines_wanted, Tally, OperatorFault, EachAt, Status, IsLowest}
+use Rattle.lx_desk.proofs.Imports.{lines_of, Show, opened, Kept, ends_script, lines_wanted, Tally, OperatorFault, EachAt, Status}
 use Rattle.lx_desk.proofs.Imports.{WritesTranscript, WritesLines, Serves, WritesFirstLines, KeepsPlaces, NoOperatorFailed, OperatorFailed, TellsOperators, TellsCrew, Finishes}
-use Rattle.lx_desk.proofs.Imports.{◌⊎◌, ByMemory, ServesOver, stood_since, Bool, EndsScript, HandsOn, ToldBySink, ToldBySource}
+use Rattle.lx_desk.proofs.Imports.{◌⊎◌, ByRefusals, ServesOver, known_since, EndsScript, HandsOn, ToldBySink, ToldBySource}
 use Rattle.std.specs.Io.KnownBytes.{Appends}
 use Rattle.std.proofs.KnownBytes.{Appends-nil}
 use Rattle.std.proofs.lemmas.List.{length-take}
@@ -55,10 +55,10 @@ full_front n places full k source at =
     full k source (sym (get_take n k places (omega (arith, within, length-take n places))) ∙ at)
 
 -- A crew over the first n operators.
-module _ {S K : Type 0} {ample : Bool} {told_in : ToldBySource S} {told_out : ToldBySink K} (show : Show) {count : ℕ}
+module _ {S K : Type 0} {known : Option ℕ} {told_in : ToldBySource S} {told_out : ToldBySink K} (show : Show) {count : ℕ}
     {operators used used' rest : List (Option S)} {sink sink' : K} {console : Kept} {tally : Tally} {output : Option SinkFault}
     {told : List (Option OperatorFault)} (i : InUse count operators used rest)
-    (c : HasCrewed ample told_in told_out (opened show) used used' sink sink' console tally output told) where
+    (c : HasCrewed known told_in told_out (opened show) used used' sink sink' console tally output told) where
   back : {place : ℕ} {start : S} → place < count → slice_get operators place ≡ Some (Some start)
       → ScriptIsBack told_in (used' ++ rest) told place start (c.lines (place + 1))
   back {place} {start} within at =
@@ -72,13 +72,13 @@ module _ {S K : Type 0} {ample : Bool} {told_in : ToldBySource S} {told_out : To
       }
 
   -- what the crew wrote, by the status
-  transcript : WholeTranscript ample (opened show) c.lines (told_out.holds sink) (told_out.holds sink') console tally
-      → WritesTranscript ample show c.lines (told_out.holds sink) (told_out.holds sink')
+  transcript : WholeTranscript known (opened show) c.lines (told_out.holds sink) (told_out.holds sink') console tally
+      → WritesTranscript known show c.lines (told_out.holds sink) (told_out.holds sink')
   transcript w = record { entries = w.entries; merged = w.merged; failures = w.failures; allows = w.allows; text = w.text }
 
   written : (o : Option SinkFault) (s : Status)
-      → HasWrittenTranscript ample told_out (opened show) c.lines sink sink' console tally o → TellsCrew o told s
-      → WritesLines ample s show c.lines told (told_out.holds sink) (told_out.holds sink')
+      → HasWrittenTranscript known told_out (opened show) c.lines sink sink' console tally o → TellsCrew o told s
+      → WritesLines known s show c.lines told (told_out.holds sink) (told_out.holds sink')
   written None status.Ok w tells = (transcript w, tells)
   written None status.ReadFault w tells = (transcript w, tells)
   written None status.InputTooLong w tells = (transcript w, tells)
@@ -87,7 +87,7 @@ module _ {S K : Type 0} {ample : Bool} {told_in : ToldBySource S} {told_out : To
   written (Some sinks.Memory) s w tells = rw tells w.prefix
 
   serves : (s : Status) → TellsCrew output told s
-      → Serves ample told_in show count operators (used' ++ rest) (told_out.holds sink) (told_out.holds sink') s
+      → Serves known told_in show count operators (used' ++ rest) (told_out.holds sink) (told_out.holds sink') s
   serves s tells = record {
     lines = c.lines;
     told = told;
@@ -191,7 +191,7 @@ earlier_written show entries failures held held' whole =
     at_least_first held held' _ _ (names_written (opened show) entries failures held held' whole)
 
 -- However a crew ended, it wrote a prefix of the text of first lines.
-as_prefix : {show : Show} {lines : ℕ → List (List ℕ)} {held held' : Option (List ℕ)} → WritesTranscript false show lines held held' → TranscriptPrefix false (opened show) lines held held'
+as_prefix : {show : Show} {lines : ℕ → List (List ℕ)} {held held' : Option (List ℕ)} → WritesTranscript None show lines held held' → TranscriptPrefix None (opened show) lines held held'
 as_prefix {show} {lines} {held} {held'} w = record {
   entries = w.entries;
   merged = λ operator. (
@@ -207,8 +207,8 @@ as_prefix {show} {lines} {held} {held'} w = record {
 
 module _ {S : Type 0} {told : ToldBySource S} {show : Show} {count : ℕ} {operators operators' : List (Option S)}
     {held held' : Option (List ℕ)} where
-  some_front : {s : Status} (h : Serves false told show count operators operators' held held' s)
-      → TranscriptPrefix false (opened show) h.lines held held' → WritesFirstLines told show count operators held held'
+  some_front : {s : Status} (h : Serves None told show count operators operators' held held' s)
+      → TranscriptPrefix None (opened show) h.lines held held' → WritesFirstLines told show count operators held held'
   some_front h w = record {
     entries = w.entries;
     each = λ place start bytes within at known.
@@ -223,12 +223,12 @@ module _ {S : Type 0} {told : ToldBySource S} {show : Show} {count : ℕ} {opera
         ∙ ap (numbered_from operator 1)
         (ap (take (w.merged operator).0) (h.no_more operator past) ∙ take_all (w.merged operator).0 [] (omega arith));
     failures = w.failures;
-    allows = w.allows;
+    allows = w.allows.allows;
     text = w.text;
     earlier = w.earlier;
   }
 
-  served_front : (s : Status) → Serves false told show count operators operators' held held' s
+  served_front : (s : Status) → Serves None told show count operators operators' held held' s
       → WritesFirstLines told show count operators held held'
   served_front status.Ok h = some_front h (as_prefix h.written.0)
   served_front status.ReadFault h = some_front h (as_prefix h.written.0)
@@ -297,17 +297,16 @@ pub serves_over : {S K : Type 0} {told_in : ToldBySource S} {told_out : ToldBySi
     {count : ℕ} {operators used rest : List (Option S)} (used' : List (Option S)) {sink sink' : K} {console : Kept} {tally : Tally}
     {output : Option SinkFault} {told : List (Option OperatorFault)} {s : Status} → InUse count operators used rest
     → count ≤ length operators → EachAt (λ k source. IsSome source) operators → first ≤ before → before ≤ after → queues ≤ queues'
-    → ByMemory before after (λ ample. HasCrewed ample told_in told_out (opened show) used used' sink sink' console tally output told)
+    → ByRefusals before after (λ known. HasCrewed known told_in told_out (opened show) used used' sink sink' console tally output told)
     → OutputCause told_out sink sink' None output → (output ≡ None → told_out.back sink' ≡ []) → TellsCrew output told s
     → ServesOver told_in told_out first after queues queues' show count sink sink' operators (used' ++ rest) s
 serves_over {first} before after {show} used' {output} {told} {s} i most full opened_later held heard crewed cause none tells =
-    let any = crewed false (λ no. absurd cc) in
+    let any = crewed None tt in
     let t = crew_told output told s tells cause none in
     record {
       works = t.works;
       places = keeps_places show i any full most;
-      served = λ ample stood.
-          inr (serves show i (crewed ample (λ sure. stood_since first before after opened_later (stood sure))) s tells);
+      served = λ known refused. inr (serves show i (crewed known (known_since known first before after opened_later refused)) s tells);
       prefix = served_front s (serves show i any s tells);
       read = operator_failed show i any full most s tells;
       none_failed = none_failed show i any s tells;
@@ -329,7 +328,7 @@ pub serves_none : {S K : Type 0} {told_in : ToldBySource S} {told_out : ToldBySi
 serves_none {told_in} {told_out} {show} {count} {operators} {sink} same kept full later heard short = rw (kept, same) (record {
   works = tt;
   places = record { same_places = refl; full = full; others = refl };
-  served = λ ample stood. inl (refl, (refl, refl));
+  served = λ known refused. inl (refl, (refl, refl));
   prefix = no_lines told_in show count operators (told_out.holds sink) (told_out.holds sink) refl;
   read = λ is. absurd cc;
   none_failed = λ is. absurd cc;

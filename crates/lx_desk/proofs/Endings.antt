@@ -2,8 +2,8 @@
 use Rattle.lx_desk.proofs.Imports.{◌≡◌, true, false, Option, IfSome, List, ℕ, ◌-◌, refl, sym, ap, subst, ◌∙◌, arith}
 use Rattle.lx_desk.proofs.Imports.{[], length, AppendsFront, Appends, AppendsFront-from, Lines, unread, Form, Job, Make, Script, ScriptKind}
 use Rattle.lx_desk.proofs.Imports.{answering_of, opening_of, Reading, IsOk, Loaded, ShowFault, reading_of, HasRead, Status, RefusedBy, EndsJob}
-use Rattle.lx_desk.proofs.Imports.{EndsScript, HasEndedBy, WritesAll, WritesFront, WritesPrefix, WritesTaken, Result, Ok, Err, TextFault}
-use Rattle.lx_desk.proofs.Imports.{Bool, ToldBySink, ToldBySource, Tells, Render, Live, Undo, Two, desk_lawful, first_of_whole, first_replies}
+use Rattle.lx_desk.proofs.Imports.{EndsScript, HasEndedBy, WritesAll, WritesFront, WritesPrefix, WritesTaken, None, Result, Ok, Err, TextFault}
+use Rattle.lx_desk.proofs.Imports.{ToldBySink, ToldBySource, Tells, Render, Live, Undo, Two, desk_lawful, first_of_whole, first_replies}
 use Rattle.lx_desk.proofs.Imports.{output_of, over_show, script_session, script_of, fault_text, lines_of, lines_read, reads}
 use Rattle.lx_session.specs.OneAnswer.{IsLawful}
 use Rattle.lx_lists.proofs.TwoAnswers.{two_lawful}
@@ -33,19 +33,19 @@ replies_front kind x failures n h h' (Ok reading) p =
     first_of_whole (answering_of kind) (lawful_of kind) (opening_of kind reading.show) (script_of x) failures n h h' p
 replies_front kind x failures n h h' (Err fault) p = AppendsFront-from h h' (fault_text fault) 0 p
 
-taken_front : (job : Job) (x : List ℕ) (left h h' : Option (List ℕ)) → WritesTaken false job x left h h' → WritesPrefix job x h h'
+taken_front : (job : Job) (x : List ℕ) (left h h' : Option (List ℕ)) → WritesTaken None job x left h h' → WritesPrefix job x h h'
 taken_front (Script kind form) x left h h' a = record {
   failures = a.failures;
   allows = a.allows;
   text = replies_front kind x a.failures (a.cut.lines - lines_read (lines_of x)) h h' (reads form x) a.text;
 }
-taken_front (Make n) x left h h' kept = unwritten_as false (Make n) x h h' kept
-taken_front job x left h h' a = unwritten_as false job x h h' a.kept
+taken_front (Make n) x left h h' kept = unwritten_as None (Make n) x h h' kept
+taken_front job x left h h' a = unwritten_as None job x h h' a.kept
 
-all_front : (job : Job) (x : List ℕ) (h h' : Option (List ℕ)) → WritesAll false job x h h' → WritesPrefix job x h h'
+all_front : (job : Job) (x : List ℕ) (h h' : Option (List ℕ)) → WritesAll None job x h h' → WritesPrefix job x h h'
 all_front job x h h' a = record { failures = a.failures; allows = a.allows; text = whole_front h h' _ a.text }
 
-pub ended_front : (job : Job) (x : List ℕ) (left h h' : Option (List ℕ)) (s : Status) → EndsJob s → HasEndedBy false s job x left h h'
+pub ended_front : (job : Job) (x : List ℕ) (left h h' : Option (List ℕ)) (s : Status) → EndsJob s → HasEndedBy None s job x left h h'
     → WritesPrefix job x h h'
 ended_front job x left h h' status.Ok ends e = all_front job x h h' e.0.text
 ended_front job x left h h' status.ShowRefused ends e = all_front job x h h' e.0.text
@@ -62,24 +62,24 @@ module _ {S K : Type 0} {form : Form} {told_in : ToldBySource S} {told : ToldByS
   output_is : (x : List ℕ) → reads form x ≡ Ok (reading_of loaded) → output_of job x [] ≡ f (reading_of loaded)
   output_is x read = tells.output x ∙ ap (λ r. over_show r f) read
 
-  pub told_ended : (ample : Bool) (rest : Option (List ℕ))
-      → IfSome (unread told_in a) (λ x. HasEndedBy ample s job x rest (told.holds output) (told.holds output'))
-  told_ended ample rest =
+  pub told_ended : (most : Option ℕ) (rest : Option (List ℕ))
+      → IfSome (unread told_in a) (λ x. HasEndedBy most s job x rest (told.holds output) (told.holds output'))
+  told_ended most rest =
       let h = told.holds output in
       let h' = told.holds output' in
       let m = r.means in
-      let front : IfSome (unread told_in a) (λ x. WritesFront ample job x h h') = IfSome_then (unread told_in a) m.text (λ x read. record {
+      let front : IfSome (unread told_in a) (λ x. WritesFront most job x h h') = IfSome_then (unread told_in a) m.text (λ x read. record {
         failures = [];
-        allows = none_of_job ample job x (no_failures job x);
+        allows = none_of_job most job x (no_failures job x);
         text = subst (λ (v : List ℕ). AppendsFront h h' v) (sym (output_is x read)) t.front;
       }) in
       by_kind status.Ok s (λ v. (v ≡ status.Ok → Appends h h' (f (reading_of loaded)))
-      → IfSome (unread told_in a) (λ x. HasEndedBy ample v job x rest h h')) t.kinds
+      → IfSome (unread told_in a) (λ x. HasEndedBy most v job x rest h h')) t.kinds
       (λ whole. both_known (unread told_in a) m.text (read_fits r) (λ x read fit. (
         record {
           text = record {
             failures = [];
-            allows = none_of_job ample job x (no_failures job x);
+            allows = none_of_job most job x (no_failures job x);
             text = subst (λ (v : List ℕ). Appends h h' v) (sym (output_is x read)) (whole refl);
           };
           within = omega (arith, none, fit, ap length (tells.bytes x));

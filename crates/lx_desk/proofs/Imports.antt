@@ -15,7 +15,7 @@ pub use Rattle.lx_desk.specs.Faults.{status_for, status_of_sink}
 pub use Rattle.lx_desk.specs.Finished.{Finishes, HasWanted, IsDone, IsOfInput}
 pub use Rattle.lx_desk.specs.Generator.{after_cue, after_setting, after_turn, chan_text, drawn_cue, drawn_cue_text, made_show, set_text, setting_from}
 pub use Rattle.lx_desk.specs.Generator.{turn_from, turn_text}
-pub use Rattle.lx_desk.specs.Live.{AmpleMemory, any_memory, AreServed, DecidesInOrder, HasFailedOutlet, HasLiveCause, HasLived, HasPlayedLive, HaveGot, HaveVersions}
+pub use Rattle.lx_desk.specs.Live.{LiveMemory, any_memory, AreServed, DecidesInOrder, HasFailedOutlet, HasLiveCause, HasLived, HasPlayedLive, HaveGot, HaveVersions}
 pub use Rattle.lx_desk.specs.Live.{LacksMemory, live_session, LiveAllows, LivesInFront, LivesTaken, LivesToEnd, OutletFailed, PlaysInFront}
 pub use Rattle.lx_desk.specs.Live.{OutletsFinish, OutletWanted, PlaysLive, PlaysScript, PlaysTaken, PlaysToEnd, TellsOutlets, TellsRun, WantsLive}
 pub use Rattle.lx_desk.specs.Output.{AnswersInFront, AnswersScript, AnswersTaken, JobFailures, NothingOfCut, RepliesToTaken, ScriptFailures, WritesAll}
@@ -37,12 +37,12 @@ pub use Rattle.lx_reader.specs.declared.fault.ShowFault.{ShowFault}
 pub use Rattle.lx_reader.specs.declared.loaded.Loaded.{Loaded}
 pub use Rattle.lx_session.proofs.HeardLines.{desk_lawful}
 pub use Rattle.lx_session.proofs.ScriptEnds.{first_of_whole, front_of_whole, more_of_whole}
-pub use Rattle.lx_session.proofs.Stood.{spared_lawful, stood_since}
+pub use Rattle.lx_session.proofs.Refusals.{known_since}
 pub use Rattle.lx_session.specs.Known.{AppendsAtLeast}
 pub use Rattle.lx_session.specs.Listening.{HasDone}
 pub use Rattle.lx_session.specs.ScriptAnswer.{AnsweredPrefix, AnsweredTaken, AnsweredWhole, ScriptAnswered}
 pub use Rattle.lx_session.specs.SessionOutcome.{HasSessionCause, KeepsLimit}
-pub use Rattle.lx_session.specs.Spared.{ByMemory, HasStood, spared}
+pub use Rattle.lx_session.specs.Spared.{ByRefusals, failed_count, HasStood, IsAtMost}
 pub use Rattle.lx_session.specs.Waits.{HandsOnReplies}
 pub use Rattle.lx_session.specs.declared.fault.SessionFault.{SessionFault}
 pub use Rattle.lx_session.specs.declared.tally.Tally.{Tally}

@@ -1,5 +1,5 @@
 -- How much of its input the program wants, and what it writes for it, from the reader's answer and the session's.
-use Rattle.lx_desk.proofs.Imports.{◌≡◌, ◌⊎◌, inl, inr, ℕ, zero, suc, ◌+◌, ◌-◌, ◌<◌, ◌≤◌, false, true, eqb, cond, Option, Some}
+use Rattle.lx_desk.proofs.Imports.{◌≡◌, ◌⊎◌, inl, inr, ℕ, zero, suc, ◌+◌, ◌-◌, ◌<◌, ◌≤◌, eqb, cond, Option, Some}
 use Rattle.lx_desk.proofs.Imports.{None, Result, Ok, Err, IfSome, IsErr, IsOk, List, [], ◌∷◌, ◌++◌, length, take, refl, sym, ap, ◌∙◌, subst}
 use Rattle.lx_desk.proofs.Imports.{arith, length-append, append-nil, append_assoc, take_all, Appends, IsAtEnd, INPUT_BYTES, AppendsFront, AppendsFront-from}
 use Rattle.lx_desk.proofs.Imports.{Lines, LinesBetween, unread, first_lines-more, first_lines-longer, Form, TextFault, lines_of, Reading, reads, script_of}
@@ -8,9 +8,9 @@ use Rattle.lx_desk.proofs.Imports.{input_wanted, over_show, fault_text, Answerin
 use Rattle.lx_desk.proofs.Imports.{bytes_wanted, Loaded, ShowFault, reading_of, HasRead, OfText, CutShort, Status, Job, Check, Crew, Sheet, Script, ScriptKind}
 use Rattle.lx_desk.proofs.Imports.{check_text, sheet_text, show_of, output_of, wanted_of, show_wanted, WritesAll, WritesTaken}
 use Rattle.lx_desk.proofs.Imports.{RepliesToTaken, NothingOfCut, AnswersScript, AnswersInFront, AnswersTaken, RefusedBy, RefusesText, status_kept, ToldBySource}
-use Rattle.lx_desk.proofs.Imports.{Bool, WritesFront, JobFailures, ScriptFailures, HasPlayed, HasEndedBy}
+use Rattle.lx_desk.proofs.Imports.{WritesFront, JobFailures, ScriptFailures, HasPlayed, HasEndedBy}
 use Rattle.lx_spec.specs.CutInput.{CutOff}
-pub use Rattle.lx_desk.proofs.EmptyPrefixes.{front_nothing, no_failures, none_failed, none_of_job, unwritten, unwritten_as}
+pub use Rattle.lx_desk.proofs.EmptyPrefixes.{front_nothing, no_failures, none_failed, none_most, none_of_job, unwritten, unwritten_as}
 use Rattle.std.proofs.KnownBytes.{Appends-nil}
 pub use Rattle.std.proofs.lemmas.Option.{IfSome_then}
 use Rattle.lx_lex.proofs.TakenLines.{lines_within, fed_then}
@@ -23,16 +23,15 @@ pub whole_front : (a b : Option (List ℕ)) (text : List ℕ) → Appends a b te
 whole_front a b text p = AppendsFront-from a b text (length text)
     (subst (λ (v : List ℕ). Appends a b v) (sym (take_all (length text) text (omega arith))) p)
 
-pub none_of_script : (ample : Bool) (by : Answering (List ℕ)) (state : by.State) (script : List (List ℕ)) → ScriptFailures ample by state script []
-none_of_script true by state script = refl
-none_of_script false by state script = tt
+pub none_of_script : (most : Option ℕ) (by : Answering (List ℕ)) (state : by.State) (script : List (List ℕ)) → ScriptFailures most by state script []
+none_of_script most by state script = record { allows = tt; few = none_most most }
 
 -- where nothing was written, a prefix of the replies was
-pub nothing_answered : (ample : Bool) (by : Answering (List ℕ)) (state : by.State) (script : List (List ℕ)) (a : Option (List ℕ))
-    → AnswersInFront ample by state script a a
-nothing_answered ample by state script a = record {
+pub nothing_answered : (most : Option ℕ) (by : Answering (List ℕ)) (state : by.State) (script : List (List ℕ)) (a : Option (List ℕ))
+    → AnswersInFront most by state script a a
+nothing_answered most by state script a = record {
   failures = [];
-  allows = none_of_script ample by state script;
+  allows = none_of_script most by state script;
   text = front_nothing a (whole_session by state script []).text;
 }
 
@@ -127,24 +126,23 @@ module _ {form : Form} {x y : List ℕ} {taken : ℕ} {reading : Reading} (v : I
   text_is kind failures = ap (λ r. over_show r (λ reading. (script_session kind x failures reading).text)) v.read
       ∙ ap (λ ls. (whole_session (answering_of kind) (opening_of kind reading.show) ls failures).text) v.script
 
-  pub allowed : (ample : Bool) (kind : ScriptKind) (failures : List (Option ℕ))
-      → ScriptFailures ample (answering_of kind) (opening_of kind reading.show) (lines_of y) failures → JobFailures ample (Script kind form) x failures
-  allowed true kind failures none = none
-  allowed false kind failures allows = rw (v.read, v.script) allows
+  pub allowed : (most : Option ℕ) (kind : ScriptKind) (failures : List (Option ℕ))
+      → ScriptFailures most (answering_of kind) (opening_of kind reading.show) (lines_of y) failures → JobFailures most (Script kind form) x failures
+  allowed most kind failures f = record { allows = rw (v.read, v.script) f.allows; few = f.few }
 
-  whole_at : {h h' : Option (List ℕ)} (ample : Bool) (kind : ScriptKind)
-      → AnswersScript ample (answering_of kind) (opening_of kind reading.show) (lines_of y) h h' → WritesAll ample (Script kind form) x h h'
-  whole_at {h} {h'} ample kind a = record {
+  whole_at : {h h' : Option (List ℕ)} (most : Option ℕ) (kind : ScriptKind)
+      → AnswersScript most (answering_of kind) (opening_of kind reading.show) (lines_of y) h h' → WritesAll most (Script kind form) x h h'
+  whole_at {h} {h'} most kind a = record {
     failures = a.failures;
-    allows = allowed ample kind a.failures a.allows;
+    allows = allowed most kind a.failures a.allows;
     text = subst (λ (t : List ℕ). Appends h h' t) (sym (text_is kind a.failures)) a.text;
   }
 
-  pub front_at : {h h' : Option (List ℕ)} (ample : Bool) (kind : ScriptKind)
-      → AnswersInFront ample (answering_of kind) (opening_of kind reading.show) (lines_of y) h h' → WritesFront ample (Script kind form) x h h'
-  front_at {h} {h'} ample kind a = record {
+  pub front_at : {h h' : Option (List ℕ)} (most : Option ℕ) (kind : ScriptKind)
+      → AnswersInFront most (answering_of kind) (opening_of kind reading.show) (lines_of y) h h' → WritesFront most (Script kind form) x h h'
+  front_at {h} {h'} most kind a = record {
     failures = a.failures;
-    allows = allowed ample kind a.failures a.allows;
+    allows = allowed most kind a.failures a.allows;
     text = subst (λ (t : List ℕ). AppendsFront h h' t) (sym (text_is kind a.failures)) a.text;
   }
 
@@ -155,13 +153,13 @@ module _ {form : Form} {x y : List ℕ} {taken : ℕ} {reading : Reading} (v : I
   pub short_of : (n : ℕ) → n < lines_wanted (lines_of y) → length v.raws + n < lines_read (lines_of x) + lines_wanted (script_of x)
   short_of n short = let s = ap lines_wanted v.script in omega (arith, s, short, v.shown)
 
-  pub taken_at : {left h h' : Option (List ℕ)} (ample : Bool) (kind : ScriptKind)
-      → AnswersTaken ample (answering_of kind) (opening_of kind reading.show) taken y left h h' → RepliesToTaken ample (Script kind form) x left h h'
-  taken_at {h} {h'} ample kind a =
+  pub taken_at : {left h h' : Option (List ℕ)} (most : Option ℕ) (kind : ScriptKind)
+      → AnswersTaken most (answering_of kind) (opening_of kind reading.show) taken y left h h' → RepliesToTaken most (Script kind form) x left h h'
+  taken_at {h} {h'} most kind a =
       let n = a.cut.lines in
       record {
         failures = a.failures;
-        allows = allowed ample kind a.failures a.allows;
+        allows = allowed most kind a.failures a.allows;
         cut = cut_from a.cut;
         short = let w = ap (input_lines_wanted x) v.read in let m = short_of n a.short in omega (arith, w, m);
         text = subst (λ (t : List ℕ). Appends h h' t)
@@ -171,15 +169,15 @@ module _ {form : Form} {x y : List ℕ} {taken : ℕ} {reading : Reading} (v : I
       }
 
   -- how the job ended, by its status
-  pub script_ended : (ample : Bool) (kind : ScriptKind) (rest h h' : Option (List ℕ)) (s : Status)
-      → HasPlayed ample s (answering_of kind) (opening_of kind reading.show) taken y rest h h' → HasEndedBy ample s (Script kind form) x rest h h'
-  script_ended ample kind rest h h' status.Ok p =
-      (record { text = whole_at ample kind p.0; within = let w = p.1 in omega (arith, wanted_read, w) }, is_ok)
-  script_ended ample kind rest h h' status.ReadFault p = taken_at ample kind p
-  script_ended ample kind rest h h' status.InputTooLong p = (taken_at ample kind p.0, let l = p.1 in omega (arith, wanted_read, l))
-  script_ended ample kind rest h h' status.WriteFault p = front_at ample kind p
-  script_ended ample kind rest h h' status.Memory p = front_at ample kind p
-  script_ended ample kind rest h h' s p = absurd p
+  pub script_ended : (most : Option ℕ) (kind : ScriptKind) (rest h h' : Option (List ℕ)) (s : Status)
+      → HasPlayed most s (answering_of kind) (opening_of kind reading.show) taken y rest h h' → HasEndedBy most s (Script kind form) x rest h h'
+  script_ended most kind rest h h' status.Ok p =
+      (record { text = whole_at most kind p.0; within = let w = p.1 in omega (arith, wanted_read, w) }, is_ok)
+  script_ended most kind rest h h' status.ReadFault p = taken_at most kind p
+  script_ended most kind rest h h' status.InputTooLong p = (taken_at most kind p.0, let l = p.1 in omega (arith, wanted_read, l))
+  script_ended most kind rest h h' status.WriteFault p = front_at most kind p
+  script_ended most kind rest h h' status.Memory p = front_at most kind p
+  script_ended most kind rest h h' s p = absurd p
 
 -- From the bytes before the show to those behind it.
 show_known : {form : Form} (a b : Option (List ℕ)) {i taken : ℕ} {raws : List (List ℕ)} {reading : Reading} {P Q : List ℕ → Type 0}
@@ -241,7 +239,7 @@ pub record IsOver (form : Form) (job : Job) (x given : List ℕ) (left rest : Op
   pub refusal : (fault : TextFault) → reads form x ≡ Err fault → output_of job given [] ≡ fault_text fault
   pub wanted : (fault : TextFault) → reads form x ≡ Err fault → wanted_of job given ≡ show_wanted x
   pub longer : (n : ℕ) → n + 1 ≤ lines_read (lines_of x) → length (first_lines (n + 1) x) ≤ length (wanted_of job given)
-  pub cut : (ample : Bool) (h : Option (List ℕ)) → IsCutShort 0 x left → WritesTaken ample job given rest h h
+  pub cut : (most : Option ℕ) (h : Option (List ℕ)) → IsCutShort 0 x left → WritesTaken most job given rest h h
 
 -- one that answers the script
 more_wanted : (x : List ℕ) (n : ℕ) (r : Result Reading TextFault) → n + 1 ≤ lines_read (lines_of x) → n + 1 ≤ input_lines_wanted x r
@@ -258,12 +256,12 @@ script_over form kind x left = record {
   refusal = λ fault text. ap (λ r. over_show r (λ reading. (script_session kind x [] reading).text)) text;
   wanted = λ fault text. ap (λ k. first_lines k x) (ap (input_lines_wanted x) text);
   longer = λ n h. first_lines-longer (n + 1) (input_lines_wanted x (reads form x)) x (more_wanted x n (reads form x) h);
-  cut = λ ample h short.
+  cut = λ most h short.
       let few : short.cut.lines - lines_read (lines_of x) ≡ 0 = let lt = short.wanted in omega (arith, lt) in
       let more : short.cut.lines + 1 ≤ lines_read (lines_of x) = let lt = short.wanted in omega (arith, lt) in
       record {
         failures = [];
-        allows = none_of_job ample (Script kind form) x (none_failed kind x (reads form x));
+        allows = none_of_job most (Script kind form) x (none_failed kind x (reads form x));
         cut = short.cut;
         short = let m = more_wanted x short.cut.lines (reads form x) more in omega (arith, m);
         text = subst (λ (t : List ℕ). Appends h h t)
@@ -276,7 +274,7 @@ pub record IsOfShow (form : Form) (job : Job) (f : Reading → List ℕ) : Type 
   pub show : (x : List ℕ) → show_of job x ≡ reads form x
   pub output : (x : List ℕ) → output_of job x [] ≡ over_show (reads form x) f
   pub bytes : (x : List ℕ) → wanted_of job x ≡ show_wanted x
-  pub cut : (ample : Bool) (x : List ℕ) (left h : Option (List ℕ)) → NothingOfCut x left h h → WritesTaken ample job x left h h
+  pub cut : (most : Option ℕ) (x : List ℕ) (left h : Option (List ℕ)) → NothingOfCut x left h h → WritesTaken most job x left h h
 
 pub show_over : {form : Form} {job : Job} {f : Reading → List ℕ} → IsOfShow form job f → (x : List ℕ) (left : Option (List ℕ))
     → IsOver form job x x left left
@@ -285,17 +283,17 @@ show_over {f} t x left = record {
   refusal = λ fault text. t.output x ∙ ap (λ r. over_show r f) text;
   wanted = λ fault text. t.bytes x;
   longer = λ n h. omega (arith, ap length (t.bytes x), first_lines-longer (n + 1) (lines_read (lines_of x)) x h);
-  cut = λ ample h short. t.cut ample x left h (record { kept = refl; cut = short.cut; short = short.wanted });
+  cut = λ most h short. t.cut most x left h (record { kept = refl; cut = short.cut; short = short.wanted });
 }
 
 pub check_tells : (form : Form) → IsOfShow form (Check form) check_text
-check_tells form = record { show = λ x. refl; output = λ x. refl; bytes = λ x. refl; cut = λ ample x left h cut. cut }
+check_tells form = record { show = λ x. refl; output = λ x. refl; bytes = λ x. refl; cut = λ most x left h cut. cut }
 
 pub sheet_tells : (form : Form) → IsOfShow form (Sheet form) sheet_text
-sheet_tells form = record { show = λ x. refl; output = λ x. refl; bytes = λ x. refl; cut = λ ample x left h cut. cut }
+sheet_tells form = record { show = λ x. refl; output = λ x. refl; bytes = λ x. refl; cut = λ most x left h cut. cut }
 
 pub crew_tells : (form : Form) (count : ℕ) → IsOfShow form (Crew count form) (λ reading. [])
-crew_tells form count = record { show = λ x. refl; output = λ x. refl; bytes = λ x. refl; cut = λ ample x left h cut. cut }
+crew_tells form count = record { show = λ x. refl; output = λ x. refl; bytes = λ x. refl; cut = λ most x left h cut. cut }
 
 -- The same of the bytes that lines have, of which none were taken.
 pub record Over {S : Type 0} (form : Form) (told : ToldBySource S) (a b : Lines S) (job : Job) (given : List ℕ → List ℕ)
@@ -322,18 +320,18 @@ means_of form told a b t says = subst (λ f. Says form told a b f) t.told says
 
 -- A show that is refused, or couldn't be read.
 module _ {S : Type 0} {form : Form} {told : ToldBySource S} {a b : Lines S} {job : Job} {given : List ℕ → List ℕ} {rest : Option (List ℕ)}
-    (ample : Bool) (o : Over form told a b job given rest) {h h' : Option (List ℕ)} {fault : ShowFault} {s : Status} where
+    (most : Option ℕ) (o : Over form told a b job given rest) {h h' : Option (List ℕ)} {fault : ShowFault} {s : Status} where
   text_refused : (t : RefusesText h h' fault s) → MeansFault told a form t.text
-      → IfSome (unread told a) (λ x. HasEndedBy ample s job (given x) rest h h')
+      → IfSome (unread told a) (λ x. HasEndedBy most s job (given x) rest h h')
   text_refused t m =
       let fits = show_fits (unread told a) m.unread_then a.taken m.taken_then m.count m.raws m.took m.whole m.wanted in
       by_kind status.ShowRefused s (λ v. (v ≡ status.ShowRefused → Appends h h' (fault_text t.text))
-      → IfSome (unread told a) (λ x. HasEndedBy ample v job (given x) rest h h')) t.kinds
+      → IfSome (unread told a) (λ x. HasEndedBy most v job (given x) rest h h')) t.kinds
       (λ whole. both_known (unread told a) (if_both (unread told a) _ _ m.text fits) o.known (λ x p over. (
         record {
           text = record {
             failures = [];
-            allows = none_of_job ample job (given x) (no_failures job (given x));
+            allows = none_of_job most job (given x) (no_failures job (given x));
             text = subst (λ (v : List ℕ). Appends h h' v) (sym (over.refusal t.text p.0)) (whole refl);
           };
           within = let fit = p.1 in let none = o.none in omega (arith, none, fit, ap length (over.wanted t.text p.0));
@@ -341,24 +339,24 @@ module _ {S : Type 0} {form : Form} {told : ToldBySource S} {a b : Lines S} {job
         subst (λ (r : Result Reading TextFault). IsErr r) (sym (over.show ∙ p.0)) refl,
       ))) (λ whole. front) (λ whole. front) t.whole
     where
-      front : IfSome (unread told a) (λ x. WritesFront ample job (given x) h h')
+      front : IfSome (unread told a) (λ x. WritesFront most job (given x) h h')
       front = both_known (unread told a) m.text o.known (λ x text over. record {
         failures = [];
-        allows = none_of_job ample job (given x) (no_failures job (given x));
+        allows = none_of_job most job (given x) (no_failures job (given x));
         text = subst (λ (v : List ℕ). AppendsFront h h' v) (sym (over.refusal t.text text)) t.front;
       })
 
-  pub refusal_ended : Says form told a b fault → RefusedBy h h' fault s → IfSome (unread told a) (λ x. HasEndedBy ample s job (given x) rest h h')
+  pub refusal_ended : Says form told a b fault → RefusedBy h h' fault s → IfSome (unread told a) (λ x. HasEndedBy most s job (given x) rest h h')
   refusal_ended says by = elim by [
     | inl t ↦ text_refused t (means_of form told a b t says)
-    | inr other ↦ subst (λ v. IfSome (unread told a) (λ x. HasEndedBy ample s job (given x) rest h v)) (sym other.kept)
-        (kept_is fault s (λ f t. Says form told a b f → IfSome (unread told a) (λ x. HasEndedBy ample t job (given x) rest h h)) other.is
-        (λ cut. both_known (unread told a) o.known cut (λ x over short. over.cut ample h (from_start x short)))
+    | inr other ↦ subst (λ v. IfSome (unread told a) (λ x. HasEndedBy most s job (given x) rest h v)) (sym other.kept)
+        (kept_is fault s (λ f t. Says form told a b f → IfSome (unread told a) (λ x. HasEndedBy most t job (given x) rest h h)) other.is
+        (λ cut. both_known (unread told a) o.known cut (λ x over short. over.cut most h (from_start x short)))
         (λ long. both_known (unread told a) (if_both (unread told a) _ _ long.0 long.1) o.known (λ x p over. (
-          over.cut ample h (from_start x p.1),
+          over.cut most h (from_start x p.1),
           past x p.0 over,
         )))
-        (λ other. all_known (unread told a) _ (λ x. unwritten ample job (given x) h)) says)
+        (λ other. all_known (unread told a) _ (λ x. unwritten most job (given x) h)) says)
   ]
     where
       from_start : (x : List ℕ) → IsCutShort a.taken x (told.left b.source.now) → IsCutShort 0 x (told.left b.source.now)

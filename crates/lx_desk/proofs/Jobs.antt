@@ -1,8 +1,8 @@
 -- What a job over the show of an input does, from what its calls came to.
-use Rattle.lx_desk.proofs.Imports.{◌≡◌, ◌≢◌, ◌≤◌, ℕ, false, Option, List, IfSome, subst, Lines, unread, Form, Job}
+use Rattle.lx_desk.proofs.Imports.{◌≡◌, ◌≢◌, ◌≤◌, ℕ, Option, List, IfSome, subst, Lines, unread, Form, Job}
 use Rattle.lx_desk.proofs.Imports.{Script, ScriptKind, answering_of, opening_of, Reading, Loaded, ShowFault, reading_of, HasRead, Status}
-use Rattle.lx_desk.proofs.Imports.{Accounts, AnswersJob, at_once, ByMemory, EndsJob, HasEndedBy, inl, inr, None, Some, Does, Plays, Refuses}
-use Rattle.lx_desk.proofs.Imports.{Tells, ToldBySink, ToldBySource, Rose, stood_since}
+use Rattle.lx_desk.proofs.Imports.{Accounts, AnswersJob, at_once, ByRefusals, EndsJob, HasEndedBy, inl, inr, None, Some, Does, Plays, Refuses}
+use Rattle.lx_desk.proofs.Imports.{Tells, ToldBySink, ToldBySource, Rose, known_since}
 use Rattle.lx_reader.specs.declared.fault.ShowFault.TheVariants as shows
 use Rattle.lx_desk.specs.declared.desk.Status.TheVariants as status
 use Rattle.lx_desk.proofs.Inputs.{IfSome_then, IsOver, IsOfShow, Says, by_kind, over_all, over_loaded, refusal_ended, script_ended}
@@ -13,14 +13,14 @@ use Rattle.lx_desk.proofs.Finishing.{accounts_since, refused_accounts}
 module _ {S K : Type 0} (told_in : ToldBySource S) {told : ToldBySink K} {first : ℕ} {input : S} (a : Lines S) {output output' : K} {s : Status}
     (from : a.source.now ≡ input) (is : unread told_in a ≡ told_in.left input) where
   does : {after : ℕ} {job : Job} {v : S} (last : Lines S) → v ≡ last.source.now → EndsJob s
-      → ByMemory first after (λ ample. IfSome (unread told_in a) (λ x. HasEndedBy ample s job x (told_in.left last.source.now)
+      → ByRefusals first after (λ most. IfSome (unread told_in a) (λ x. HasEndedBy most s job x (told_in.left last.source.now)
       (told.holds output) (told.holds output')))
       → Accounts told first after (told_in.faults a.source.now) (told_in.faults last.source.now) output output' s
       → Does told first after job (told_in.left input) (told_in.left v) (told_in.faults input) (told_in.faults v) output output' s
   does {job} last same works ended accounts = rw (same, ← is, ← from) (record {
     works = works;
     ended = ended;
-    prefix = IfSome_then (unread told_in a) (ended false (λ no. absurd cc))
+    prefix = IfSome_then (unread told_in a) (ended None tt)
         (λ x e. ended_front job x (told_in.left last.source.now) (told.holds output) (told.holds output') s works e);
     accounts = accounts;
   })
@@ -34,7 +34,7 @@ module _ {S K : Type 0} (told_in : ToldBySource S) {told : ToldBySink K} {first 
       → Tells told before after status.Ok (f (reading_of loaded)) output output' s
       → Does told first after job (told_in.left input) (told_in.left v) (told_in.faults input) (told_in.faults v) output output' s
   told_does tells r same kept held t = does told_in a from is b same (by_kind status.Ok s EndsJob t.kinds tt tt tt)
-      (λ ample stood. told_ended tells none r t ample (told_in.left b.source.now))
+      (λ most known. told_ended tells none r t most (told_in.left b.source.now))
       (accounts_since held kept (t.accounts (told_in.faults b.source.now)))
 
   -- the show isn't read
@@ -45,7 +45,7 @@ module _ {S K : Type 0} (told_in : ToldBySource S) {told : ToldBySink K} {first 
       → first ≤ before → Refuses told fault output output' s
       → Does told first before job (told_in.left input) (told_in.left v) (told_in.faults input) (told_in.faults v) output output' s
   refused_does {job} over says same read kept short held t = does told_in a from is b same (refusal_ends t.refused)
-      (λ ample stood. refusal_ended ample (over_all form told_in a b job over none) says t.refused) (refused_accounts t read kept short held)
+      (λ most known. refusal_ended most (over_all form told_in a b job over none) says t.refused) (refused_accounts t read kept short held)
 
   -- it plays the script that follows, to where the lines are then
   pub played_does : {after : ℕ} {kind : ScriptKind} {loaded : Loaded} {d : Lines S} {v : S} → HasRead told_in a b form loaded
@@ -53,8 +53,8 @@ module _ {S K : Type 0} (told_in : ToldBySource S) {told : ToldBySink K} {first 
       → Plays told_in told before after (answering_of kind) (opening_of kind loaded.show) b d output output' s
       → Does told first after (Script kind form) (told_in.left input) (told_in.left v) (told_in.faults input) (told_in.faults v) output output' s
   played_does {after} {kind} {d} r same kept held p = does told_in a from is d same (script_job s p.works)
-      (λ ample stood. over_loaded r none (p.ended ample (λ known. stood_since first before after held (stood known)))
-      (λ x y v q. script_ended v ample kind (told_in.left d.source.now) (told.holds output) (told.holds output') s q))
+      (λ most known. over_loaded r none (p.ended most (known_since most first before after held known))
+      (λ x y v q. script_ended v most kind (told_in.left d.source.now) (told.holds output) (told.holds output') s q))
       (accounts_since held kept p.accounts)
 
 -- a job that is done here is answered by how it ended

@@ -7,7 +7,6 @@ mod MadeEndings
 mod PlacesInUse
 mod Played
 mod AnyFailures
-mod AmpleFailures
 mod LiveRuns
 mod LiveEnds
 mod CrewRuns

@@ -1,21 +1,20 @@
 -- What the status of a live run says of its output and of its outlets.
-use Rattle.lx_desk.proofs.Imports.{◌≡◌, inl, inr, ℕ, zero, suc, ◌<◌, ◌≤◌, Bool, true, false, Option, Some, None, Result}
+use Rattle.lx_desk.proofs.Imports.{◌≡◌, inl, inr, ℕ, zero, suc, ◌<◌, ◌≤◌, true, false, Option, Some, None, Result}
 use Rattle.lx_desk.proofs.Imports.{Ok, Err, IfSome, List, [], ◌∷◌, ◌++◌, length, take, slice_get, refl, sym, ap, ◌∙◌, subst, arith}
 use Rattle.lx_desk.proofs.Imports.{append-nil, take_all, ◌+◌, HandsOnReplies, INPUT_BYTES, same_Some, SinkFault, Lines, Command, lines_of, Show, opened}
 use Rattle.lx_desk.proofs.Imports.{Kept, Session, begin_at, after_each, answered_lines, Allows, bytes_wanted, DeskState, begun, desk_answering}
 use Rattle.lx_desk.proofs.Imports.{SessionFault, Tally, HasDone, ScriptAnswered, KeepsLimit}
 use Rattle.lx_desk.proofs.Imports.{HasSessionCause, IsFull, Status, status_for, live_session, LiveAllows, HaveVersions, PlaysScript, HaveGot}
-use Rattle.lx_desk.proofs.Imports.{AmpleMemory, any_memory, AreServed, PlaysInFront, PlaysTaken, HasPlayedLive, OutletFailed, PlaysToEnd, LacksMemory}
+use Rattle.lx_desk.proofs.Imports.{LiveMemory, any_memory, AreServed, PlaysInFront, PlaysTaken, HasPlayedLive, OutletFailed, PlaysToEnd, LacksMemory}
 use Rattle.lx_desk.proofs.Imports.{DecidesInOrder, Finishes, HasLiveCause, TellsOutlets, TellsRun, Appends, AppendsFront, ToldBySink, ToldBySource}
-use Rattle.std.specs.Prelude.{◌&&◌}
 use Rattle.lx_desk.proofs.Imports.{◌-◌, AppendsAtLeast, bytes_taken, desk_lawful, more_of_whole, source_faults, source_left}
-use Rattle.lx_desk.proofs.Imports.{◌⊎◌, ByMemory, EndsScript, PlaysLive, stood_since, unread, Rose, HasStood, OutletsFinish, OutletWanted, WantsLive}
+use Rattle.lx_desk.proofs.Imports.{◌⊎◌, ByRefusals, failed_count, IsAtMost, EndsScript, PlaysLive, known_since, unread, Rose, HasStood, OutletsFinish, OutletWanted, WantsLive}
 use Rattle.std.proofs.lemmas.Bool.{cases_lt}
 use Rattle.std.proofs.lemmas.List.{nil_from_length}
 use Rattle.lx_io.specs.Causes.{one_more}
 use Rattle.lx_io.specs.declared.sink.SinkFault.TheVariants as sinks
 use Rattle.lx_session.specs.declared.fault.SessionFault.TheVariants as faults
-use Rattle.lx_workers.specs.Engines.{engine_answering, leaves_room}
+use Rattle.lx_workers.specs.Engines.{engine_answering, leaves_room, most_of}
 use Rattle.lx_workers.specs.LiveOutcome.{HasPlayedScript}
 use Rattle.lx_workers.specs.Places.{OutletIsBack}
 use Rattle.lx_desk.specs.declared.desk.Status.TheVariants as status
@@ -63,30 +62,30 @@ unsent_rose n before after sent some = elim (cases_lt after (one_more before)) [
 abbrev live_over : Show → List (Option ℕ) → List (List ℕ) → Session DeskState
 live_over show failures lines = after_each (desk_answering false) failures (begin_at (begun (opened show))) lines
 
-record IsLive (ample : Bool) (show : Show) (commands : List Command) (script lines : List (List ℕ)) (failures : List (Option ℕ)) : Type 0 where
-  same : after_each (engine_answering ample commands) failures (begin_at (begun (opened show))) lines ≡ live_over show failures lines
+record IsLive (most : Option ℕ) (show : Show) (commands : List Command) (script lines : List (List ℕ)) (failures : List (Option ℕ)) : Type 0 where
+  same : after_each (engine_answering commands) failures (begin_at (begun (opened show))) lines ≡ live_over show failures lines
   accepted : (live_over show failures lines).state.accepted ≡ commands
-  allows : LiveAllows ample show script failures (live_over show failures lines).state.accepted
+  allows : LiveAllows most show script failures (live_over show failures lines).state.accepted
 
-is_live : {console : Kept} (ample : Bool) (show : Show) (commands : List Command) (script lines : List (List ℕ)) (failures : List (Option ℕ))
-    → Allows (engine_answering ample commands) (begun (opened show)) script failures
+is_live : {console : Kept} (most : Option ℕ) (show : Show) (commands : List Command) (script lines : List (List ℕ)) (failures : List (Option ℕ))
+    → Allows (engine_answering commands) (begun (opened show)) script failures → IsAtMost (most_of most commands) (failed_count failures)
     → HasDone (λ done. done ≡ commands) (opened show) console
-    (after_each (engine_answering ample commands) failures (begin_at (begun (opened show))) lines).state
-    → IsLive ample show commands script lines failures
-is_live ample show commands script lines failures allows done =
-    let same = alike (ample && leaves_room commands) (leaves_room commands) failures (begin_at (begun (opened show))) lines in
+    (after_each (engine_answering commands) failures (begin_at (begun (opened show))) lines).state
+    → IsLive most show commands script lines failures
+is_live most show commands script lines failures allows few done =
+    let same = alike (leaves_room commands) failures (begin_at (begun (opened show))) lines in
     let accepted = ap (λ (s : Session DeskState). s.state.accepted) (sym same) ∙ done.listened in
     record {
       same = same;
       accepted = accepted;
-      allows = subst (λ (l : List Command). LiveAllows ample show script failures l) (sym accepted) allows;
+      allows = subst (λ (l : List Command). LiveAllows most show script failures l) (sym accepted) (record { allows = allows; few = few });
     }
 
 -- A script was played with the first outlets.
-module _ {S O K : Type 0} (ample : AmpleMemory) {told_in : ToldBySource S} {told_out : ToldBySink O} {told : ToldBySink K} {show : Show}
+module _ {S O K : Type 0} (memory : LiveMemory) {told_in : ToldBySource S} {told_out : ToldBySink O} {told : ToldBySink K} {show : Show}
     {old new : Lines S} {output output' : O} {universes : ℕ} {outlets used used' rest : List (Option K)} {console : Kept}
     {session : Result Tally SessionFault} {results : List (Option SinkFault)} {n : ℕ} (i : InUse universes outlets used rest)
-    (p : HasPlayedScript ample.edits told_in told_out told show old new output output' used used' console session results n) where
+    (p : HasPlayedScript memory.edits told_in told_out told show old new output output' used used' console session results n) where
   abbrev now : List (Option K)
   now = used' ++ rest
 
@@ -202,11 +201,11 @@ module _ {S O K : Type 0} (ample : AmpleMemory) {told_in : ToldBySource S} {told
 
   -- How a session that was played ended, by its status.
   abbrev Answers : (List ℕ) → Result Tally SessionFault → Type 0
-  Answers bytes r = ScriptAnswered (engine_answering ample.edits commands) (HasDone (λ done. done ≡ commands) (opened show) console)
-      (begun (opened show)) (bytes_taken old) bytes (unread told_in new) (source_left told_in new) h h' r
+  Answers bytes r = ScriptAnswered (engine_answering commands) (most_of memory.edits commands)
+      (HasDone (λ done. done ≡ commands) (opened show) console) (begun (opened show)) (bytes_taken old) bytes (unread told_in new) (source_left told_in new) h h' r
 
-  module _ (sent : ample.versions ≡ true → n ≡ 0) (bytes : List ℕ) where
-    abbrev served : (list : List Command) → list ≡ commands → AreServed ample.versions told show universes outlets now list
+  module _ (sent : memory.versions ≡ true → n ≡ 0) (bytes : List ℕ) where
+    abbrev served : (list : List Command) → list ≡ commands → AreServed memory.versions told show universes outlets now list
     served list is = record {
       published = p.published;
       held_back = p.held_back;
@@ -215,25 +214,25 @@ module _ {S O K : Type 0} (ample : AmpleMemory) {told_in : ToldBySource S} {told
       got = got;
     }
 
-    in_front : Answers bytes (Err faults.WriteFault) → PlaysInFront ample told show universes (lines_of bytes) h h' outlets now
+    in_front : Answers bytes (Err faults.WriteFault) → PlaysInFront memory told show universes (lines_of bytes) h h' outlets now
     in_front a =
         let lines = answered_lines (lines_of bytes) in
-        let live = is_live ample.edits show commands (lines_of bytes) (take a.lines lines) a.failures a.allows a.stands in
+        let live = is_live memory.edits show commands (lines_of bytes) (take a.lines lines) a.failures a.allows a.few a.stands in
         record {
           failures = a.failures;
           lines = a.lines;
           allows = live.allows;
           text = subst (λ (s : Session DeskState). AppendsFront h h' s.text) live.same a.text;
           earlier = subst (λ (s : Session DeskState). AppendsAtLeast h h' s.text)
-              (alike (ample.edits && leaves_room commands) (leaves_room commands) a.failures (begin_at (begun (opened show)))
+              (alike (leaves_room commands) a.failures (begin_at (begun (opened show)))
               (take (a.lines - 1) lines)) a.earlier;
           served = served _ live.accepted;
         }
 
-    taken_of : Answers bytes (Err faults.ReadFault) → PlaysTaken ample told show universes old.taken bytes (source_left told_in new) h h' outlets now
+    taken_of : Answers bytes (Err faults.ReadFault) → PlaysTaken memory told show universes old.taken bytes (source_left told_in new) h h' outlets now
     taken_of a =
-        let live = is_live ample.edits show commands (lines_of bytes) (take a.cut.lines (answered_lines (lines_of bytes))) a.failures a.allows
-        a.stands in
+        let live = is_live memory.edits show commands (lines_of bytes) (take a.cut.lines (answered_lines (lines_of bytes))) a.failures a.allows
+        a.few a.stands in
         record {
           failures = a.failures;
           cut = a.cut;
@@ -245,9 +244,9 @@ module _ {S O K : Type 0} (ample : AmpleMemory) {told_in : ToldBySource S} {told
 
     -- it was answered to its end
     abbrev to_end : {Told : List (Option SinkFault) → ℕ → Type 0} {tally : Tally} → Answers bytes (Ok tally) → Told results (length p.held_back)
-        → PlaysToEnd ample Told told show universes (lines_of bytes) h h' outlets now
+        → PlaysToEnd memory Told told show universes (lines_of bytes) h h' outlets now
     to_end a tells =
-        let live = is_live ample.edits show commands (lines_of bytes) (answered_lines (lines_of bytes)) a.failures a.allows a.stands in
+        let live = is_live memory.edits show commands (lines_of bytes) (answered_lines (lines_of bytes)) a.failures a.allows a.few a.stands in
         record {
           failures = a.failures;
           allows = live.allows;
@@ -256,7 +255,7 @@ module _ {S O K : Type 0} (ample : AmpleMemory) {told_in : ToldBySource S} {told
           told = tells;
         }
 
-    whole_in_front : {tally : Tally} → Answers bytes (Ok tally) → PlaysInFront ample told show universes (lines_of bytes) h h' outlets now
+    whole_in_front : {tally : Tally} → Answers bytes (Ok tally) → PlaysInFront memory told show universes (lines_of bytes) h h' outlets now
     whole_in_front answered =
         let a = to_end {Told = λ results unsent. Unit {0}} answered tt in
         let lines = answered_lines (lines_of bytes) in
@@ -273,7 +272,7 @@ module _ {S O K : Type 0} (ample : AmpleMemory) {told_in : ToldBySource S} {told
 
     -- where all outlets had what they were to get
     plays : {tally : Tally} → Answers bytes (Ok tally) → TellsOutlets results n status.Ok
-        → PlaysScript ample.edits told show universes (lines_of bytes) h h' outlets now
+        → PlaysScript memory.edits told show universes (lines_of bytes) h h' outlets now
     plays answered ok =
         let a = to_end {Told = λ results unsent. Unit {0}} answered tt in
         let none : p.held_back ≡ [] = nil_from_length p.held_back (sym p.unsent_is ∙ ok.0) in
@@ -288,14 +287,14 @@ module _ {S O K : Type 0} (ample : AmpleMemory) {told_in : ToldBySource S} {told
         }
 
     live_fault : (fault : SessionFault) → Answers bytes (Err fault) → KeepsLimit old.taken bytes (Err fault)
-        → HasPlayedLive ample (status_for {A = Tally} (Err fault)) told show universes old.taken bytes (source_left told_in new) h h' outlets now
+        → HasPlayedLive memory (status_for {A = Tally} (Err fault)) told show universes old.taken bytes (source_left told_in new) h h' outlets now
     live_fault faults.ReadFault a limit = taken_of a
     live_fault faults.InputTooLong a limit = (taken_of a, limit)
     live_fault faults.WriteFault a limit = in_front a
     live_fault faults.Memory a limit = inr (in_front a)
 
     live_at : (r : Result Tally SessionFault) (s : Status) → TellsRun r results n s → Answers bytes r → KeepsLimit old.taken bytes r
-        → HasPlayedLive ample s told show universes old.taken bytes (source_left told_in new) h h' outlets now
+        → HasPlayedLive memory s told show universes old.taken bytes (source_left told_in new) h h' outlets now
     live_at (Ok tally) status.Ok tells a limit = (plays a tells, limit)
     live_at (Ok tally) status.WriteFault tells a limit = whole_in_front a
     live_at (Ok tally) status.Memory tells a limit = inr (whole_in_front a)
@@ -303,9 +302,9 @@ module _ {S O K : Type 0} (ample : AmpleMemory) {told_in : ToldBySource S} {told
     live_at (Err fault) s tells a limit = rw tells (live_fault fault a limit)
 
   -- and in which order its faults are told: the session's own comes first
-  module _ (sent : ample.versions ≡ true → n ≡ 0) where
+  module _ (sent : memory.versions ≡ true → n ≡ 0) where
     abbrev ToEnd : (List (Option SinkFault) → ℕ → Type 0) → Type 0
-    ToEnd Told = IfSome (unread told_in old) (λ bytes. PlaysToEnd ample Told told show universes (lines_of bytes) h h' outlets now
+    ToEnd Told = IfSome (unread told_in old) (λ bytes. PlaysToEnd memory Told told show universes (lines_of bytes) h h' outlets now
         × (old.taken + length (bytes_wanted bytes) ≤ INPUT_BYTES))
 
     session_order : (fault : SessionFault) → HasSessionCause {T = Tally} told_in told_out old new output output' (Err fault)
@@ -340,9 +339,9 @@ none_plays {told_in} {lines} unread_on unwritten unplayed later writers_later sh
   works = tt;
   played = inl refl;
   finish = λ ok place start within at. absurd cc;
-  ended = λ ample stood sent. all_known (unread told_in lines) _ (λ bytes. inl (refl, refl));
+  ended = λ memory refused sent. all_known (unread told_in lines) _ (λ bytes. inl (refl, refl));
   cause = refl;
-  order = λ ample stood sent. inl (inl (refl, refl));
+  order = λ memory refused sent. inl (inl (refl, refl));
   finished = not_done (λ done. done) (λ other. other);
   wanted = λ is. inl short;
   heap_later = later;
@@ -355,26 +354,26 @@ pub run_plays : {S O K : Type 0} {told_in : ToldBySource S} {told_out : ToldBySi
     {outlets used rest : List (Option K)} (used' : List (Option K)) {console : Kept} {session : Result Tally SessionFault}
     {results : List (Option SinkFault)} {n : ℕ} {s : Status} → InUse universes outlets used rest → universes ≤ length outlets
     → IsFull outlets → first ≤ before → before ≤ after → writers ≤ writers'
-    → ByMemory before after (λ ample. HasPlayedScript ample told_in told_out told show old new output output' used used' console session results n)
+    → ByRefusals before after (λ known. HasPlayedScript known told_in told_out told show old new output output' used used' console session results n)
     → (HasStood writers writers' → n ≡ 0) → IfSome (unread told_in old) (λ bytes. KeepsLimit (bytes_taken old) bytes session)
     → HasSessionCause told_in told_out old new output output' session → HandsOnReplies session (told_out.back output')
     → TellsRun session results n s
     → PlaysLive told_in told_out told first after writers writers' show universes old new output output' outlets (used' ++ rest) s
 run_plays {told_in} {first} {writers} {writers'} before after {show} {old} used' {session} {results} {n} {s} i most full opened held heard played sent
     limit cause none tells =
-    let any = played false (λ no. absurd cc) in
+    let any = played None tt in
     record {
       works = run_ends session results n s tells;
       played = inr (record { show = show; published = any.published; got = got any_memory i any });
       finish = outlets_finish any_memory i any s tells;
-      ended = λ ample stood known.
-          let p = played ample.edits (λ sure. stood_since first before after opened (stood sure)) in
+      ended = λ memory refused stood.
+          let p = played memory.edits (known_since memory.edits first before after opened refused) in
           both_known (unread told_in old) p.session_is limit
-          (λ bytes a keeps. live_at ample i p (λ sure. sent (known sure)) bytes session s tells a keeps);
+          (λ bytes a keeps. live_at memory i p (λ sure. sent (stood sure)) bytes session s tells a keeps);
       cause = live_cause any_memory i any most full session s tells cause;
-      order = λ ample stood known.
-          let p = played ample.edits (λ sure. stood_since first before after opened (stood sure)) in
-          order_at ample i p (λ sure. sent (known sure)) session s tells p.session_is limit cause none;
+      order = λ memory refused stood.
+          let p = played memory.edits (known_since memory.edits first before after opened refused) in
+          order_at memory i p (λ sure. sent (stood sure)) session s tells p.session_is limit cause none;
       finished = run_finishes any_memory i any session s tells cause none;
       wanted = live_wanted any_memory i any most full first after writers writers' session s tells cause sent;
       heap_later = omega (arith, opened, held);

@@ -5,10 +5,9 @@ use Rattle.lx_desk.proofs.Imports.{Rose, AppendsFront, Lines, unread, Command, M
 use Rattle.lx_desk.proofs.Imports.{Session, Counts, whole_session, bytes_wanted, DeskState, begun, desk_answering, Reading, reads, script_of, over_show}
 use Rattle.lx_desk.proofs.Imports.{script_session, made_input, made_text, make_output, StandsFor, Tally, HasDone, AnsweredWhole}
 use Rattle.lx_desk.proofs.Imports.{Loaded, ShowFault, reading_of, HasRead, Status, WritesFront}
-use Rattle.lx_desk.proofs.Imports.{HasEndedBy, ToldBySource, Bool, false, spared, JobFailures, ScriptFailures}
-use Rattle.lx_desk.proofs.Imports.{SessionFault, KeepsLimit, status_for, Does, HasSessionCause, Refuses, source_faults, stood_since, ToldBySink}
+use Rattle.lx_desk.proofs.Imports.{HasEndedBy, ToldBySource, None, JobFailures, ScriptFailures}
+use Rattle.lx_desk.proofs.Imports.{SessionFault, KeepsLimit, status_for, Does, HasSessionCause, Refuses, source_faults, known_since, ToldBySink}
 use Rattle.lx_session.specs.declared.fault.SessionFault.TheVariants as sessions
-use Rattle.lx_desk.proofs.AmpleFailures.{failed_so}
 use Rattle.lx_spec.specs.Output.{frame}
 use Rattle.lx_session.specs.LineReply.{counts_in}
 use Rattle.lx_reader.specs.declared.fault.ShowFault.TheVariants as faults
@@ -42,49 +41,45 @@ report_is cues s tally r is counts =
 
 -- a session from a desk on, whose text was dropped: the console stands for the desk at its end
 module _ (cues : ℕ) (heard : List Command → Type 0) (d : Desk) (dropped dropped' h h' : Option (List ℕ)) (console : Kept) (tally : Tally)
-    (r : Report) (reports : Reports cues console tally r) (ample : Bool) where
+    (r : Report) (reports : Reports cues console tally r) (most : Option ℕ) where
   abbrev Held : List (List ℕ) → Type 0
-  Held script = AnsweredWhole (spared ample (desk_answering true)) (HasDone heard d console) (begun d) script dropped dropped' tally
+  Held script = AnsweredWhole (desk_answering true) most (HasDone heard d console) (begun d) script dropped dropped' tally
 
   lines_are : {script : List (List ℕ)} (w : Held script)
-      → report_text r ≡ made_text cues (made_session d script (failed_so ample (desk_answering true) (begun d) script w.failures w.allows).failed)
-  lines_are {script} w =
-      report_is cues (whole_session (spared ample (desk_answering true)) (begun d) script w.failures) tally r (reports _ w.stands.stands) w.counts
-      ∙ ap (λ (s : Session DeskState). made_text cues s) (failed_so ample (desk_answering true) (begun d) script w.failures w.allows).whole
+      → report_text r ≡ made_text cues (made_session d script w.failures)
+  lines_are {script} w = report_is cues (made_session d script w.failures) tally r (reports _ w.stands.stands) w.counts
 
   -- its report was written or not
   pub session_told : (o : Option (List ℕ)) (taken : ℕ) (s : Status) → (s ≡ status.Ok) ⊎ ((s ≡ status.WriteFault) ⊎ (s ≡ status.Memory))
       → (s ≡ status.Ok → Appends h h' (report_text r)) → AppendsFront h h' (report_text r)
       → IfSome o (λ bytes. Held (lines_of bytes)) → IfSome o (λ bytes. taken + length (bytes_wanted bytes) ≤ INPUT_BYTES)
-      → IfSome o (λ bytes. HasTold ample s cues d taken bytes h h')
+      → IfSome o (λ bytes. HasTold most s cues d taken bytes h h')
   session_told o taken s kinds whole front w fits =
-      let part : IfSome o (λ bytes. TellsInFront ample cues d (lines_of bytes) h h') = IfSome_then o w (λ x q.
-      let f = failed_so ample (desk_answering true) (begun d) (lines_of x) q.failures q.allows in
-      record { failures = f.failed; allows = f.allows; text = subst (λ (t : List ℕ). AppendsFront h h' t) (lines_are q) front }) in
+      let part : IfSome o (λ bytes. TellsInFront most cues d (lines_of bytes) h h') = IfSome_then o w (λ x q.
+      record { failures = q.failures; allows = record { allows = q.allows; few = q.few }; text = subst (λ (t : List ℕ). AppendsFront h h' t) (lines_are q) front }) in
       by_kind status.Ok s
-      (λ t. (t ≡ status.Ok → Appends h h' (report_text r)) → IfSome o (λ bytes. HasTold ample t cues d taken bytes h h')) kinds
-      (λ all. both_known o w fits (λ x q fit.
-      let f = failed_so ample (desk_answering true) (begun d) (lines_of x) q.failures q.allows in (
-        record { failures = f.failed; allows = f.allows; text = subst (λ (t : List ℕ). Appends h h' t) (lines_are q) (all refl) },
+      (λ t. (t ≡ status.Ok → Appends h h' (report_text r)) → IfSome o (λ bytes. HasTold most t cues d taken bytes h h')) kinds
+      (λ all. both_known o w fits (λ x q fit. (
+        record { failures = q.failures; allows = record { allows = q.allows; few = q.few }; text = subst (λ (t : List ℕ). Appends h h' t) (lines_are q) (all refl) },
         fit,
       ))) (λ all. part) (λ all. part) whole
 
 -- nothing was written about it
-nothing_told : (ample : Bool) (cues : ℕ) (d : Desk) (script : List (List ℕ)) (a : Option (List ℕ)) → TellsInFront ample cues d script a a
-nothing_told ample cues d script a = record {
+nothing_told : (most : Option ℕ) (cues : ℕ) (d : Desk) (script : List (List ℕ)) (a : Option (List ℕ)) → TellsInFront most cues d script a a
+nothing_told most cues d script a = record {
   failures = [];
-  allows = none_of_script ample (desk_answering true) (begun d) script;
+  allows = none_of_script most (desk_answering true) (begun d) script;
   text = front_nothing a (made_text cues (made_session d script []));
 }
 
 -- and of a session that ended by a fault, of which no report is made
-fault_told : (ample : Bool) (o a : Option (List ℕ)) (cues : ℕ) (d : Desk) (taken : ℕ) (fault : SessionFault)
+fault_told : (most : Option ℕ) (o a : Option (List ℕ)) (cues : ℕ) (d : Desk) (taken : ℕ) (fault : SessionFault)
     → IfSome o (λ bytes. KeepsLimit taken bytes (Err fault))
-    → IfSome o (λ bytes. HasTold ample (status_for {A = Tally} (Err fault)) cues d taken bytes a a)
-fault_told ample o a cues d taken sessions.ReadFault limit = IfSome_then o limit (λ x fits. refl)
-fault_told ample o a cues d taken sessions.InputTooLong limit = IfSome_then o limit (λ x long. (refl, long))
-fault_told ample o a cues d taken sessions.WriteFault limit = IfSome_then o limit (λ x any. nothing_told ample cues d (lines_of x) a)
-fault_told ample o a cues d taken sessions.Memory limit = IfSome_then o limit (λ x any. nothing_told ample cues d (lines_of x) a)
+    → IfSome o (λ bytes. HasTold most (status_for {A = Tally} (Err fault)) cues d taken bytes a a)
+fault_told most o a cues d taken sessions.ReadFault limit = IfSome_then o limit (λ x fits. refl)
+fault_told most o a cues d taken sessions.InputTooLong limit = IfSome_then o limit (λ x long. (refl, long))
+fault_told most o a cues d taken sessions.WriteFault limit = IfSome_then o limit (λ x any. nothing_told most cues d (lines_of x) a)
+fault_told most o a cues d taken sessions.Memory limit = IfSome_then o limit (λ x any. nothing_told most cues d (lines_of x) a)
 
 module _ {S K : Type 0} {told_in : ToldBySource S} {told : ToldBySink K} {first after cues : ℕ} {d : Desk} {output : K} where
   -- memory was short at the opening
@@ -92,7 +87,7 @@ module _ {S K : Type 0} {told_in : ToldBySource S} {told : ToldBySink K} {first 
       → TellsScript told_in told first after cues d lines lines output output status.Memory
   not_told {lines} later rose = record {
     works = tt;
-    ended = λ ample stood. all_known (unread told_in lines) _ (λ x. nothing_told ample cues d (lines_of x) (told.holds output));
+    ended = λ most known. all_known (unread told_in lines) _ (λ x. nothing_told most cues d (lines_of x) (told.holds output));
     accounts = none_accounts later rose;
   }
 
@@ -104,7 +99,7 @@ module _ {S K : Type 0} {told_in : ToldBySource S} {told : ToldBySink K} {first 
       → TellsScript told_in told first after cues d old new output output (status_for {A = Tally} (Err fault))
   fault_tells before {old} fault unfailed unwanting opened held cause limit = record {
     works = ends_script (Err fault);
-    ended = λ ample stood. fault_told ample (unread told_in old) (told.holds output) cues d old.taken fault limit;
+    ended = λ most known. fault_told most (unread told_in old) (told.holds output) cues d old.taken fault limit;
     accounts = dropped_accounts before fault unfailed unwanting opened held cause;
   }
 
@@ -115,37 +110,36 @@ pub not_made : {K : Type 0} {told : ToldBySink K} {before after n : ℕ} {left :
     → Rose before after → Does told before after (Make n) (Some []) left reads reads output output status.Memory
 not_made {told} {n} {output} later rose = record {
   works = tt;
-  ended = λ ample stood. unwritten ample (Make n) [] (told.holds output);
-  prefix = unwritten false (Make n) [] (told.holds output);
+  ended = λ most known. unwritten most (Make n) [] (told.holds output);
+  prefix = unwritten None (Make n) [] (told.holds output);
   accounts = none_accounts later rose;
 }
 
--- where memory was ample no attempt failed, of this job as of the script that it answers
-made_allows : (ample : Bool) (n : ℕ) (failures : List (Option ℕ)) → JobFailures ample (Script Render Moves) (made_input n) failures
-    → JobFailures ample (Make n) [] failures
-made_allows true n failures none = none
-made_allows false n failures allows = allows
+-- attempts failed of this job as of the script that it answers
+made_allows : (most : Option ℕ) (n : ℕ) (failures : List (Option ℕ)) → JobFailures most (Script Render Moves) (made_input n) failures
+    → JobFailures most (Make n) [] failures
+made_allows most n failures f = record { allows = f.allows; few = f.few }
 
 -- its show was read
-module _ (n : ℕ) {y : List ℕ} {taken : ℕ} {reading : Reading} (v : IsRead Moves (made_input n) y taken reading) (ample : Bool)
+module _ (n : ℕ) {y : List ℕ} {taken : ℕ} {reading : Reading} (v : IsRead Moves (made_input n) y taken reading) (most : Option ℕ)
     (rest h h' : Option (List ℕ)) where
-  allows_of : (failures : List (Option ℕ)) → ScriptFailures ample (desk_answering true) (begun (opened reading.show)) (lines_of y) failures
-      → JobFailures ample (Make n) [] failures
-  allows_of failures allows = made_allows ample n failures (allowed v ample Render failures allows)
+  allows_of : (failures : List (Option ℕ)) → ScriptFailures most (desk_answering true) (begun (opened reading.show)) (lines_of y) failures
+      → JobFailures most (Make n) [] failures
+  allows_of failures allows = made_allows most n failures (allowed v most Render failures allows)
 
   script_text : (failures : List (Option ℕ)) → make_output n failures ≡ made_text n (made_session (opened reading.show) (lines_of y) failures)
   script_text failures =
       ap (λ r. over_show r (λ x. made_text n (made_session (opened x.show) (script_of (made_input n)) failures))) v.read
       ∙ ap (λ ls. made_text n (made_session (opened reading.show) ls failures)) v.script
 
-  made_front : TellsInFront ample n (opened reading.show) (lines_of y) h h' → WritesFront ample (Make n) [] h h'
+  made_front : TellsInFront most n (opened reading.show) (lines_of y) h h' → WritesFront most (Make n) [] h h'
   made_front t = record {
     failures = t.failures;
     allows = allows_of t.failures t.allows;
     text = subst (λ (w : List ℕ). AppendsFront h h' w) (sym (script_text t.failures)) t.text;
   }
 
-  made_ended : (s : Status) → HasTold ample s n (opened reading.show) taken y h h' → HasEndedBy ample s (Make n) [] rest h h'
+  made_ended : (s : Status) → HasTold most s n (opened reading.show) taken y h h' → HasEndedBy most s (Make n) [] rest h h'
   made_ended status.Ok p = (
     record {
       text = record {
@@ -176,15 +170,15 @@ module _ (n : ℕ) {S K : Type 0} (told_in : ToldBySource S) (a b : Lines S) (is
       let works = script_job s t.works in
       record {
         works = works;
-        ended = λ ample stood. ended_by ample (t.ended ample (λ known. stood_since first before after held (stood known)));
-        prefix = ended_front (Make n) [] rest h h' s works (ended_by false (t.ended false (λ no. absurd cc)));
+        ended = λ most known. ended_by most (t.ended most (known_since most first before after held known));
+        prefix = ended_front (Make n) [] rest h h' s works (ended_by None (t.ended None tt));
         accounts = accounts_beside none_before none_behind (accounts_since held refl t.accounts);
       }
     where
-      ended_by : (ample : Bool) → IfSome (unread told_in b) (λ y. HasTold ample s n (opened loaded.show) b.taken y (told.holds output) (told.holds output'))
-          → HasEndedBy ample s (Make n) [] rest (told.holds output) (told.holds output')
-      ended_by ample p = subst (λ o. IfSome o (λ x. x ≡ made_input n → HasEndedBy ample s (Make n) [] rest (told.holds output) (told.holds output')))
-          is (over_loaded r none p (λ x y v q e. made_ended n (subst (λ w. IsRead Moves w y b.taken (reading_of loaded)) e v) ample rest
+      ended_by : (most : Option ℕ) → IfSome (unread told_in b) (λ y. HasTold most s n (opened loaded.show) b.taken y (told.holds output) (told.holds output'))
+          → HasEndedBy most s (Make n) [] rest (told.holds output) (told.holds output')
+      ended_by most p = subst (λ o. IfSome o (λ x. x ≡ made_input n → HasEndedBy most s (Make n) [] rest (told.holds output) (told.holds output')))
+          is (over_loaded r none p (λ x y v q e. made_ended n (subst (λ w. IsRead Moves w y b.taken (reading_of loaded)) e v) most rest
           (told.holds output) (told.holds output') s q)) refl
 
   -- it wasn't read
@@ -195,11 +189,11 @@ module _ (n : ℕ) {S K : Type 0} (told_in : ToldBySource S) (a b : Lines S) (is
       let h = told.holds output in
       let h' = told.holds output' in
       let works = refusal_ends t.refused in
-      let ended = λ (ample : Bool). subst (λ o. IfSome o (λ x. HasEndedBy ample s (Make n) [] rest h h')) is (refusal_ended ample over says t.refused) in
+      let ended = λ (most : Option ℕ). subst (λ o. IfSome o (λ x. HasEndedBy most s (Make n) [] rest h h')) is (refusal_ended most over says t.refused) in
       record {
         works = works;
-        ended = λ ample stood. ended ample;
-        prefix = ended_front (Make n) [] rest h h' s works (ended false);
+        ended = λ most known. ended most;
+        prefix = ended_front (Make n) [] rest h h' s works (ended None);
         accounts = accounts_beside refl refl (refused_accounts t read (λ other. refl) short held);
       }
     where
@@ -210,7 +204,7 @@ module _ (n : ℕ) {S K : Type 0} (told_in : ToldBySource S) (a b : Lines S) (is
           refusal = λ fault text. ap (λ r. over_show r (λ x. made_text n (script_session Render (made_input n) [] x))) text;
           wanted = (script_over Moves Render (made_input n) rest).wanted;
           longer = (script_over Moves Render (made_input n) rest).longer;
-          cut = λ ample h short. refl;
+          cut = λ most h short. refl;
         });
         none = none;
       }

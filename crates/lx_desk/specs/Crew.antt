@@ -1,5 +1,5 @@
 -- What a run of several operators comes to.
-use Rattle.std.specs.Prelude.{◌≡◌, ◌⊎◌, ◌≢◌, ℕ, ◌+◌, ◌<◌, ◌≤◌, Bool, Option, Some, None, IsSome, Result, Ok, Err, List, []}
+use Rattle.std.specs.Prelude.{◌≡◌, ◌⊎◌, ◌≢◌, ℕ, ◌+◌, ◌<◌, ◌≤◌, Option, Some, None, IsSome, Result, Ok, Err, List, []}
 use Rattle.std.specs.Prelude.{length, take, drop, slice_get}
 use Rattle.std.specs.Io.KnownBytes.{Appends}
 use Rattle.lx_base.specs.declared.TheConstants.{INPUT_BYTES}
@@ -25,7 +25,7 @@ use Rattle.lx_crew.specs.CrewOutcome.{ScriptIsBack}
 use Rattle.lx_crew.specs.Transcripts.{AppendsAtLeast, CrewAllowsBy, TranscriptPrefix, all_but_last}
 use Rattle.lx_desk.specs.declared.desk.Status.{Status}
 use Rattle.lx_desk.specs.declared.desk.Status.TheVariants as status
-use Rattle.lx_session.specs.Spared.{ByMemory}
+use Rattle.lx_session.specs.Spared.{ByRefusals}
 use Rattle.lx_desk.specs.Endings.{EndsScript, HasEnded}
 use Rattle.lx_desk.specs.Finished.{Finishes, HasWanted}
 use Rattle.lx_desk.specs.Faults.{status_of_sink}
@@ -41,28 +41,28 @@ pub record IsLowest (told : List (Option OperatorFault)) (fault : OperatorFault)
   pub below : (lower : ℕ) (other : Option OperatorFault) → lower < place → slice_get told lower ≡ Some other → other ≡ None
 
 -- The whole text of a crew was written: the lines of all operators, each once and in its operator's order, and each with its replies.
--- Attempts failed only at edits that may take memory; and here and below none did where memory was ample.
-pub record WritesTranscript (ample : Bool) (show : Show) (lines : ℕ → List (List ℕ)) (held held' : Known) : Type 0 where
+-- Attempts failed only at edits that may take memory, and here and below of no more lines than `most`, where such a number is known.
+pub record WritesTranscript (most : Option ℕ) (show : Show) (lines : ℕ → List (List ℕ)) (held held' : Known) : Type 0 where
   pub entries : List CrewEntry
   pub merged : Merged lines entries
   pub failures : List (Option ℕ)
-  pub allows : CrewAllowsBy ample (opened show) entries failures
+  pub allows : CrewAllowsBy most (opened show) entries failures
   pub text : Appends held held' (crew_text (opened show) entries failures)
 
 -- What was written of these lines, by the status: the whole text, also after a fault of an operator, of which the lowest operator's is
 -- told. After a fault of the output it is a prefix of the text of first lines of each operator, and that of all of them but the last is
 -- written whole.
-abbrev pub WritesLines : (ample : Bool) → Status → Show → (ℕ → List (List ℕ)) → List (Option OperatorFault) → (held held' : Known) → Type 0
-WritesLines ample status.Ok show lines told held held' = WritesTranscript ample show lines held held' × NoneTold told
-WritesLines ample status.ReadFault show lines told held held' = WritesTranscript ample show lines held held' × IsLowest told ends.ReadFault
-WritesLines ample status.InputTooLong show lines told held held' = WritesTranscript ample show lines held held' × IsLowest told ends.InputTooLong
-WritesLines ample status.WriteFault show lines told held held' = TranscriptPrefix ample (opened show) lines held held'
-WritesLines ample status.Memory show lines told held held' = TranscriptPrefix ample (opened show) lines held held'
-WritesLines ample other show lines told held held' = ⊥
+abbrev pub WritesLines : (most : Option ℕ) → Status → Show → (ℕ → List (List ℕ)) → List (Option OperatorFault) → (held held' : Known) → Type 0
+WritesLines most status.Ok show lines told held held' = WritesTranscript most show lines held held' × NoneTold told
+WritesLines most status.ReadFault show lines told held held' = WritesTranscript most show lines held held' × IsLowest told ends.ReadFault
+WritesLines most status.InputTooLong show lines told held held' = WritesTranscript most show lines held held' × IsLowest told ends.InputTooLong
+WritesLines most status.WriteFault show lines told held held' = TranscriptPrefix most (opened show) lines held held'
+WritesLines most status.Memory show lines told held held' = TranscriptPrefix most (opened show) lines held held'
+WritesLines most other show lines told held held' = ⊥
 
 -- The first n operators were served over a show: each place has its source again, and `lines` has what was taken of it. Without a
 -- fault of its own these are all its lines up to `quit` or the end, and with one those that were taken whole. No others have lines or a fault.
-pub record Serves {S : Type 0} (ample : Bool) (told_in : ToldBySource S) (show : Show) (count : ℕ) (operators operators' : List (Option S))
+pub record Serves {S : Type 0} (most : Option ℕ) (told_in : ToldBySource S) (show : Show) (count : ℕ) (operators operators' : List (Option S))
     (held held' : Known) (s : Status) : Type 0 where
   pub lines : ℕ → List (List ℕ)
   pub told : List (Option OperatorFault)
@@ -71,22 +71,22 @@ pub record Serves {S : Type 0} (ample : Bool) (told_in : ToldBySource S) (show :
   pub none : lines 0 ≡ []
   pub no_more : (operator : ℕ) → count < operator → lines operator ≡ []
   pub others : (place : ℕ) (fault : OperatorFault) → slice_get told place ≡ Some (Some fault) → place < count
-  pub written : WritesLines ample s show lines told held held'
+  pub written : WritesLines most s show lines told held held'
 
 -- the same, or memory ran out before the first line, and then nothing was read or written
-abbrev pub ServesOrWants : {S : Type 0} → (ample : Bool) → ToldBySource S → Show → ℕ → (operators operators' : List (Option S))
+abbrev pub ServesOrWants : {S : Type 0} → (most : Option ℕ) → ToldBySource S → Show → ℕ → (operators operators' : List (Option S))
     → (held held' : Known) → Status → Type 0
-ServesOrWants ample told show count operators operators' held held' s =
+ServesOrWants most told show count operators operators' held held' s =
     ((s ≡ status.Memory) × ((held' ≡ held) × (operators' ≡ operators)))
-    ⊎ Serves ample told show count operators operators' held held' s
+    ⊎ Serves most told show count operators operators' held held' s
 
 -- The show was read, and the operators were served over it.
-pub record ServesShow {S : Type 0} (ample : Bool) (told : ToldBySource S) (count : ℕ) (form : Form) (bytes : List ℕ)
+pub record ServesShow {S : Type 0} (most : Option ℕ) (told : ToldBySource S) (count : ℕ) (form : Form) (bytes : List ℕ)
     (operators operators' : List (Option S)) (held held' : Known) (s : Status) : Type 0 where
   pub reading : Reading
   pub read : reads form bytes ≡ Ok reading
   pub within : length (show_wanted bytes) ≤ INPUT_BYTES
-  pub served : Serves ample told reading.show count operators operators' held held' s
+  pub served : Serves most told reading.show count operators operators' held held' s
 
 -- It ended as another job, before an operator's line was taken: the show is refused, or there was a fault.
 pub record ServesNone {S : Type 0} (count : ℕ) (form : Form) (bytes : List ℕ) (left : Known) (operators operators' : List (Option S))
@@ -96,11 +96,11 @@ pub record ServesNone {S : Type 0} (count : ℕ) (form : Form) (bytes : List ℕ
   pub ended : HasEnded s (Crew count form) bytes left held held'
   pub untouched : operators' ≡ operators
 
-abbrev pub HasCrewEnded : {S : Type 0} → (ample : Bool) → ToldBySource S → ℕ → Form → List ℕ → Known
+abbrev pub HasCrewEnded : {S : Type 0} → (most : Option ℕ) → ToldBySource S → ℕ → Form → List ℕ → Known
     → (operators operators' : List (Option S)) → (held held' : Known) → Status → Type 0
-HasCrewEnded ample told count form bytes left operators operators' held held' s =
+HasCrewEnded most told count form bytes left operators operators' held held' s =
     ServesNone count form bytes left operators operators' held held' s
-    ⊎ ServesShow ample told count form bytes operators operators' held held' s
+    ⊎ ServesShow most told count form bytes operators operators' held held' s
 
 -- A prefix of the text of a crew was written: of each operator in use first lines up to `quit` or the end, numbered from 1, and of
 -- no other any. The text of all of them but the last was written whole. Attempts failed only at edits that may take memory.
@@ -207,7 +207,7 @@ pub record ServesOver {S K : Type 0} (told : ToldBySource S) (told_out : ToldByS
     (count : ℕ) (output output' : K) (operators operators' : List (Option S)) (s : Status) : Type 0 where
   pub works : EndsScript s
   pub places : KeepsPlaces count operators operators'
-  pub served : ByMemory refusals refusals' (λ ample. ServesOrWants ample told show count operators operators' (told_out.holds output)
+  pub served : ByRefusals refusals refusals' (λ most. ServesOrWants most told show count operators operators' (told_out.holds output)
       (told_out.holds output') s)
   pub prefix : WritesFirstLines told show count operators (told_out.holds output) (told_out.holds output')
   pub read : s ≡ status.ReadFault → OperatorFailed told count operators operators'

@@ -7,7 +7,7 @@ use Rattle.lx_io.specs.Told.{ToldBySink}
 use Rattle.lx_spec.specs.declared.Job.{Job}
 use Rattle.lx_reader.specs.declared.fault.ShowFault.{ShowFault}
 use Rattle.lx_reader.specs.declared.fault.ShowFault.TheVariants as faults
-use Rattle.lx_session.specs.Spared.{ByMemory}
+use Rattle.lx_session.specs.Spared.{ByRefusals}
 use Rattle.lx_desk.specs.declared.desk.Status.{Status}
 use Rattle.lx_desk.specs.declared.desk.Status.TheVariants as status
 use Rattle.lx_desk.specs.Output.{WritesPrefix}
@@ -46,8 +46,8 @@ pub record Refuses {K : Type 0} (told : ToldBySink K) (fault : ShowFault) (outpu
 pub record Does {K : Type 0} (told : ToldBySink K) (refusals refusals' : ℕ) (job : Job) (given left : Option (List ℕ)) (reads reads' : ℕ)
     (output output' : K) (s : Status) : Type 0 where
   pub works : EndsJob s
-  pub ended : ByMemory refusals refusals'
-      (λ ample. IfSome given (λ bytes. HasEndedBy ample s job bytes left (told.holds output) (told.holds output')))
+  pub ended : ByRefusals refusals refusals'
+      (λ most. IfSome given (λ bytes. HasEndedBy most s job bytes left (told.holds output) (told.holds output')))
   pub prefix : IfSome given (λ bytes. WritesPrefix job bytes (told.holds output) (told.holds output'))
   pub accounts : Accounts told refusals refusals' reads reads' output output' s
   pub open accounts use *

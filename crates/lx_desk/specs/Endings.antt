@@ -50,27 +50,28 @@ EndsScript status.Live = ⊥
 EndsScript other = Unit {0}
 
 -- The whole text was written, and the input is within its limit.
-pub record WritesWhole (ample : Bool) (job : Job) (bytes : List ℕ) (held held' : Option (List ℕ)) : Type 0 where
-  pub text : WritesAll ample job bytes held held'
+pub record WritesWhole (most : Option ℕ) (job : Job) (bytes : List ℕ) (held held' : Option (List ℕ)) : Type 0 where
+  pub text : WritesAll most job bytes held held'
   pub within : length (wanted_of job bytes) ≤ INPUT_BYTES
 
 -- Ok and ShowRefused: the whole text was written, of a show that was read or of one that is refused. Where the input couldn't be read on,
 -- what was written is nothing, or the replies to the script lines that were taken whole; the input is told too long only where it is.
--- After every other status of a job it is a prefix of the whole text. Where memory was ample no attempt failed.
-abbrev pub HasEndedBy : (ample : Bool) → Status → Job → List ℕ → Option (List ℕ) → Option (List ℕ) → Option (List ℕ) → Type 0
-HasEndedBy ample status.Ok job bytes left held held' = WritesWhole ample job bytes held held' × IsOk (show_of job bytes)
-HasEndedBy ample status.ShowRefused job bytes left held held' = WritesWhole ample job bytes held held' × IsErr (show_of job bytes)
-HasEndedBy ample status.ReadFault job bytes left held held' = WritesTaken ample job bytes left held held'
-HasEndedBy ample status.InputTooLong job bytes left held held' =
-    WritesTaken ample job bytes left held held' × (INPUT_BYTES < length (wanted_of job bytes))
-HasEndedBy ample status.WriteFault job bytes left held held' = WritesFront ample job bytes held held'
-HasEndedBy ample status.Memory job bytes left held held' = WritesFront ample job bytes held held'
-HasEndedBy ample status.Usage job bytes left held held' = ⊥
-HasEndedBy ample status.Live job bytes left held held' = at_once (Some job) ≡ Some status.Live
+-- After every other status of a job it is a prefix of the whole text. Attempts of no more lines than `most` failed, where such a
+-- number is known.
+abbrev pub HasEndedBy : (most : Option ℕ) → Status → Job → List ℕ → Option (List ℕ) → Option (List ℕ) → Option (List ℕ) → Type 0
+HasEndedBy most status.Ok job bytes left held held' = WritesWhole most job bytes held held' × IsOk (show_of job bytes)
+HasEndedBy most status.ShowRefused job bytes left held held' = WritesWhole most job bytes held held' × IsErr (show_of job bytes)
+HasEndedBy most status.ReadFault job bytes left held held' = WritesTaken most job bytes left held held'
+HasEndedBy most status.InputTooLong job bytes left held held' =
+    WritesTaken most job bytes left held held' × (INPUT_BYTES < length (wanted_of job bytes))
+HasEndedBy most status.WriteFault job bytes left held held' = WritesFront most job bytes held held'
+HasEndedBy most status.Memory job bytes left held held' = WritesFront most job bytes held held'
+HasEndedBy most status.Usage job bytes left held held' = ⊥
+HasEndedBy most status.Live job bytes left held held' = at_once (Some job) ≡ Some status.Live
 
--- the same, whether memory was ample or not
+-- the same, where no such number is known
 abbrev pub HasEnded : Status → Job → List ℕ → Option (List ℕ) → Option (List ℕ) → Option (List ℕ) → Type 0
-HasEnded s job bytes left held held' = HasEndedBy false s job bytes left held held'
+HasEnded s job bytes left held held' = HasEndedBy None s job bytes left held held'
 
 -- A fault of the outside comes only where its count rose. One of the input comes only where no write of the output failed, and one of the
 -- output only where no read did.
@@ -82,13 +83,13 @@ HasCauseOf status.Memory reads reads' writes writes' = reads' ≡ reads
 HasCauseOf other reads reads' writes writes' = Unit {0}
 
 -- The same of a script that is answered from a state on, before which this many bytes of the input were taken.
-abbrev pub HasPlayed : (ample : Bool) → Status → (by : Answering (List ℕ)) → by.State → ℕ → List ℕ → Option (List ℕ) → Option (List ℕ)
+abbrev pub HasPlayed : (most : Option ℕ) → Status → (by : Answering (List ℕ)) → by.State → ℕ → List ℕ → Option (List ℕ) → Option (List ℕ)
     → Option (List ℕ) → Type 0
-HasPlayed ample status.Ok by state before bytes left held held' =
-    AnswersScript ample by state (lines_of bytes) held held' × (before + length (bytes_wanted bytes) ≤ INPUT_BYTES)
-HasPlayed ample status.ReadFault by state before bytes left held held' = AnswersTaken ample by state before bytes left held held'
-HasPlayed ample status.InputTooLong by state before bytes left held held' =
-    AnswersTaken ample by state before bytes left held held' × (INPUT_BYTES < before + length (bytes_wanted bytes))
-HasPlayed ample status.WriteFault by state before bytes left held held' = AnswersInFront ample by state (lines_of bytes) held held'
-HasPlayed ample status.Memory by state before bytes left held held' = AnswersInFront ample by state (lines_of bytes) held held'
-HasPlayed ample other by state before bytes left held held' = ⊥
+HasPlayed most status.Ok by state before bytes left held held' =
+    AnswersScript most by state (lines_of bytes) held held' × (before + length (bytes_wanted bytes) ≤ INPUT_BYTES)
+HasPlayed most status.ReadFault by state before bytes left held held' = AnswersTaken most by state before bytes left held held'
+HasPlayed most status.InputTooLong by state before bytes left held held' =
+    AnswersTaken most by state before bytes left held held' × (INPUT_BYTES < before + length (bytes_wanted bytes))
+HasPlayed most status.WriteFault by state before bytes left held held' = AnswersInFront most by state (lines_of bytes) held held'
+HasPlayed most status.Memory by state before bytes left held held' = AnswersInFront most by state (lines_of bytes) held held'
+HasPlayed most other by state before bytes left held held' = ⊥

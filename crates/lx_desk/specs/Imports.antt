@@ -7,7 +7,7 @@ pub use Rattle.lx_io.specs.Causes.{HasCause}
 pub use Rattle.lx_io.specs.Puts.{Puts}
 pub use Rattle.lx_lex.specs.Unread.{bytes_taken, CanAdvance, SameSource}
 pub use Rattle.lx_reader.specs.Answer.{reading_of}
-pub use Rattle.lx_session.specs.Spared.{ByMemory, HasStood}
+pub use Rattle.lx_session.specs.Spared.{ByRefusals}
 pub use Rattle.lx_spec.specs.CheckOutput.{check_text}
 pub use Rattle.lx_spec.specs.Desk.{Desk, opened}
 pub use Rattle.lx_spec.specs.FaultLine.{fault_text}

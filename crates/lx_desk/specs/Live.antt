@@ -24,10 +24,10 @@ use Rattle.lx_spec.specs.DeskSession.{DeskState, begun, desk_answering}
 use Rattle.lx_spec.specs.Reading.{Reading, reads, script_of, lines_read}
 use Rattle.lx_spec.specs.ScriptOutput.{input_wanted}
 use Rattle.lx_workers.specs.Works.{HasAll}
-use Rattle.lx_workers.specs.Engines.{engine_answering}
+use Rattle.lx_workers.specs.Engines.{engine_answering, most_of}
 use Rattle.lx_workers.specs.LiveOutcome.{AreDelivered}
 use Rattle.lx_session.specs.Known.{AppendsAtLeast, Known}
-use Rattle.lx_session.specs.Spared.{HasStood}
+use Rattle.lx_session.specs.Spared.{failed_count, HasStood, IsAtMost, RoseAtMost}
 use Rattle.lx_session.specs.declared.fault.SessionFault.{SessionFault}
 use Rattle.lx_session.specs.declared.tally.Tally.{Tally}
 use Rattle.lx_desk.specs.declared.desk.Status.{Status}
@@ -44,25 +44,28 @@ live_session show script failures = whole_session (desk_answering false) (begun 
 abbrev pub live_after : Show → List (List ℕ) → List (Option ℕ) → ℕ → Session DeskState
 live_after show script failures lines = session_after (desk_answering false) (begun (opened show)) script failures lines
 
--- What of a live run's memory is known to have been ample: that of its edits, and that of the versions that it publishes.
-pub record AmpleMemory : Type 0 where
-  pub edits : Bool
+-- What is known of a live run's memory: how many of its lines failed at most, if that is, and whether that of the versions which it publishes
+-- was ample.
+pub record LiveMemory : Type 0 where
+  pub edits : Option ℕ
   pub versions : Bool
 
--- of neither is it known
-abbrev pub any_memory : AmpleMemory
-any_memory = record { edits = false; versions = false }
+-- nothing is known
+abbrev pub any_memory : LiveMemory
+any_memory = record { edits = None; versions = false }
 
--- What holds, whichever of them is known: that of edits was ample where the heap refused nothing, and that of versions where the writer's
+-- What holds, whatever of it is known: no more lines failed than the heap refused calls, and memory for versions was ample where the writer's
 -- heap refused nothing.
-abbrev pub ByLiveMemory : (refusals refusals' writers writers' : ℕ) → (AmpleMemory → Type 0) → Type 0
+abbrev pub ByLiveMemory : (refusals refusals' writers writers' : ℕ) → (LiveMemory → Type 0) → Type 0
 ByLiveMemory refusals refusals' writers writers' P =
-    (ample : AmpleMemory) → (ample.edits ≡ true → HasStood refusals refusals') → (ample.versions ≡ true → HasStood writers writers') → P ample
+    (known : LiveMemory) → IfSome known.edits (RoseAtMost refusals refusals') → (known.versions ≡ true → HasStood writers writers') → P known
 
--- As long as fewer than 2^62 commands were accepted attempts failed only at edits that may take memory and that the desk accepts, and where
--- memory was ample none did.
-abbrev pub LiveAllows : (ample : Bool) → Show → List (List ℕ) → List (Option ℕ) → (accepted : List Command) → Type 0
-LiveAllows ample show script failures accepted = Allows (engine_answering ample accepted) (begun (opened show)) script failures
+-- As long as fewer than 2^62 commands were accepted attempts failed only at edits that may take memory and that the desk accepts, and of no
+-- more lines than `most`, where such a number is known.
+pub record LiveAllows (most : Option ℕ) (show : Show) (script : List (List ℕ)) (failures : List (Option ℕ)) (accepted : List Command)
+    : Type 0 where
+  pub allows : Allows (engine_answering accepted) (begun (opened show)) script failures
+  pub few : IsAtMost (most_of most accepted) (failed_count failures)
 
 -- an outlet has the lines of versions of rising prefixes of these commands, the last of which is all of them
 pub record HasVersions {K : Type 0} (told : ToldBySink K) (show : Show) (outlets' : List (Option K)) (place : ℕ) (start : K)
@@ -76,12 +79,12 @@ HaveVersions {K} told show universes outlets outlets' list =
     (place : ℕ) (start : K) → place < universes → slice_get outlets place ≡ Some (Some start)
     → HasVersions told show outlets' place start list
 
--- A script was answered to its end, and each outlet's last line is that of the version after all accepted commands. Here and below no attempt
--- failed where memory was ample, by `LiveAllows`.
-pub record PlaysScript {K : Type 0} (ample : Bool) (told : ToldBySink K) (show : Show) (universes : ℕ) (script : List (List ℕ))
+-- A script was answered to its end, and each outlet's last line is that of the version after all accepted commands. Here and below attempts
+-- failed by `LiveAllows`.
+pub record PlaysScript {K : Type 0} (most : Option ℕ) (told : ToldBySink K) (show : Show) (universes : ℕ) (script : List (List ℕ))
     (held held' : Known) (outlets outlets' : List (Option K)) : Type 0 where
   pub failures : List (Option ℕ)
-  pub allows : LiveAllows ample show script failures (live_session show script failures).state.accepted
+  pub allows : LiveAllows most show script failures (live_session show script failures).state.accepted
   pub text : Appends held held' (live_session show script failures).text
   pub versions : HaveVersions told show universes outlets outlets' (live_session show script failures).state.accepted
 
@@ -104,77 +107,77 @@ pub record AreServed {K : Type 0} (all : Bool) (told : ToldBySink K) (show : Sho
 
 -- Up to this many lines of a script were answered, by a prefix of the replies, in which those to all of them but the last are whole; and the
 -- outlets got what was published of the commands that these lines came to.
-pub record PlaysInFront {K : Type 0} (ample : AmpleMemory) (told : ToldBySink K) (show : Show) (universes : ℕ)
+pub record PlaysInFront {K : Type 0} (known : LiveMemory) (told : ToldBySink K) (show : Show) (universes : ℕ)
     (script : List (List ℕ)) (held held' : Known) (outlets outlets' : List (Option K)) : Type 0 where
   pub failures : List (Option ℕ)
   pub lines : ℕ
-  pub allows : LiveAllows ample.edits show script failures (live_after show script failures lines).state.accepted
+  pub allows : LiveAllows known.edits show script failures (live_after show script failures lines).state.accepted
   pub text : AppendsFront held held' (live_after show script failures lines).text
   pub earlier : AppendsAtLeast held held' (live_after show script failures (lines - 1)).text
-  pub served : AreServed ample.versions told show universes outlets outlets' (live_after show script failures lines).state.accepted
+  pub served : AreServed known.versions told show universes outlets outlets' (live_after show script failures lines).state.accepted
 
 -- The lines that were taken whole were answered, and the outlets got what was published of the commands that these lines came to.
-pub record PlaysTaken {K : Type 0} (ample : AmpleMemory) (told : ToldBySink K) (show : Show) (universes before : ℕ)
+pub record PlaysTaken {K : Type 0} (known : LiveMemory) (told : ToldBySink K) (show : Show) (universes before : ℕ)
     (bytes : List ℕ) (left held held' : Known) (outlets outlets' : List (Option K)) : Type 0 where
   pub failures : List (Option ℕ)
   pub cut : CutOff before bytes left
   pub short : cut.lines < lines_wanted (lines_of bytes)
-  pub allows : LiveAllows ample.edits show (lines_of bytes) failures (live_after show (lines_of bytes) failures cut.lines).state.accepted
+  pub allows : LiveAllows known.edits show (lines_of bytes) failures (live_after show (lines_of bytes) failures cut.lines).state.accepted
   pub text : Appends held held' (live_after show (lines_of bytes) failures cut.lines).text
-  pub served : AreServed ample.versions told show universes outlets outlets' (live_after show (lines_of bytes) failures cut.lines).state.accepted
+  pub served : AreServed known.versions told show universes outlets outlets' (live_after show (lines_of bytes) failures cut.lines).state.accepted
 
 -- how a script over a show ended that was played live, before which this many bytes of the input were taken
-abbrev pub HasPlayedLive : {K : Type 0} → (ample : AmpleMemory) → Status → ToldBySink K → Show → (universes before : ℕ) → List ℕ
+abbrev pub HasPlayedLive : {K : Type 0} → (known : LiveMemory) → Status → ToldBySink K → Show → (universes before : ℕ) → List ℕ
     → (left held held' : Known) → (outlets outlets' : List (Option K)) → Type 0
-HasPlayedLive ample status.Ok told show universes before bytes left held held' outlets outlets' =
-    PlaysScript ample.edits told show universes (lines_of bytes) held held' outlets outlets'
+HasPlayedLive known status.Ok told show universes before bytes left held held' outlets outlets' =
+    PlaysScript known.edits told show universes (lines_of bytes) held held' outlets outlets'
     × (before + length (bytes_wanted bytes) ≤ INPUT_BYTES)
-HasPlayedLive ample status.ReadFault told show universes before bytes left held held' outlets outlets' =
-    PlaysTaken ample told show universes before bytes left held held' outlets outlets'
-HasPlayedLive ample status.InputTooLong told show universes before bytes left held held' outlets outlets' =
-    PlaysTaken ample told show universes before bytes left held held' outlets outlets'
+HasPlayedLive known status.ReadFault told show universes before bytes left held held' outlets outlets' =
+    PlaysTaken known told show universes before bytes left held held' outlets outlets'
+HasPlayedLive known status.InputTooLong told show universes before bytes left held held' outlets outlets' =
+    PlaysTaken known told show universes before bytes left held held' outlets outlets'
     × (INPUT_BYTES < before + length (bytes_wanted bytes))
-HasPlayedLive ample status.WriteFault told show universes before bytes left held held' outlets outlets' =
-    PlaysInFront ample told show universes (lines_of bytes) held held' outlets outlets'
-HasPlayedLive ample status.Memory told show universes before bytes left held held' outlets outlets' =
+HasPlayedLive known status.WriteFault told show universes before bytes left held held' outlets outlets' =
+    PlaysInFront known told show universes (lines_of bytes) held held' outlets outlets'
+HasPlayedLive known status.Memory told show universes before bytes left held held' outlets outlets' =
     ((held' ≡ held) × (outlets' ≡ outlets))
-    ⊎ PlaysInFront ample told show universes (lines_of bytes) held held' outlets outlets'
-HasPlayedLive ample other told show universes before bytes left held held' outlets outlets' = ⊥
+    ⊎ PlaysInFront known told show universes (lines_of bytes) held held' outlets outlets'
+HasPlayedLive known other told show universes before bytes left held held' outlets outlets' = ⊥
 
 -- The show was read, the replies to the whole script were written, and each outlet's last line is that of the version after all commands
 -- that were accepted.
-pub record PlaysWhole {K : Type 0} (ample : Bool) (told : ToldBySink K) (universes : ℕ) (form : Form) (bytes : List ℕ)
+pub record PlaysWhole {K : Type 0} (most : Option ℕ) (told : ToldBySink K) (universes : ℕ) (form : Form) (bytes : List ℕ)
     (held held' : Known) (outlets outlets' : List (Option K)) : Type 0 where
   pub reading : Reading
   pub read : reads form bytes ≡ Ok reading
   pub failures : List (Option ℕ)
-  pub allows : LiveAllows ample reading.show (script_of bytes) failures (live_session reading.show (script_of bytes) failures).state.accepted
+  pub allows : LiveAllows most reading.show (script_of bytes) failures (live_session reading.show (script_of bytes) failures).state.accepted
   pub text : Appends held held' (live_session reading.show (script_of bytes) failures).text
   pub versions : HaveVersions told reading.show universes outlets outlets' (live_session reading.show (script_of bytes) failures).state.accepted
   pub within : length (input_wanted form bytes) ≤ INPUT_BYTES
 
 -- The show was read, up to this many lines of its script were answered, by a prefix of the replies, and the outlets got what was published
 -- of the commands that these lines came to.
-pub record LivesInFront {K : Type 0} (ample : AmpleMemory) (told : ToldBySink K) (universes : ℕ) (form : Form)
+pub record LivesInFront {K : Type 0} (known : LiveMemory) (told : ToldBySink K) (universes : ℕ) (form : Form)
     (bytes : List ℕ) (held held' : Known) (outlets outlets' : List (Option K)) : Type 0 where
   pub reading : Reading
   pub read : reads form bytes ≡ Ok reading
-  pub plays : PlaysInFront ample told reading.show universes (script_of bytes) held held' outlets outlets'
+  pub plays : PlaysInFront known told reading.show universes (script_of bytes) held held' outlets outlets'
 
 -- The show was read, the script lines that were taken whole were answered, and the outlets got what was published of the commands that
 -- these lines came to.
-pub record LivesTaken {K : Type 0} (ample : AmpleMemory) (told : ToldBySink K) (universes : ℕ) (form : Form)
+pub record LivesTaken {K : Type 0} (known : LiveMemory) (told : ToldBySink K) (universes : ℕ) (form : Form)
     (bytes : List ℕ) (left held held' : Known) (outlets outlets' : List (Option K)) : Type 0 where
   pub reading : Reading
   pub read : reads form bytes ≡ Ok reading
   pub failures : List (Option ℕ)
   pub cut : CutOff 0 bytes left
   pub short : cut.lines < lines_read (lines_of bytes) + lines_wanted (script_of bytes)
-  pub allows : LiveAllows ample.edits reading.show (script_of bytes) failures
+  pub allows : LiveAllows known.edits reading.show (script_of bytes) failures
       (live_after reading.show (script_of bytes) failures (cut.lines - lines_read (lines_of bytes))).state.accepted
   pub text : Appends held held'
       (live_after reading.show (script_of bytes) failures (cut.lines - lines_read (lines_of bytes))).text
-  pub served : AreServed ample.versions told reading.show universes outlets outlets'
+  pub served : AreServed known.versions told reading.show universes outlets outlets'
       (live_after reading.show (script_of bytes) failures (cut.lines - lines_read (lines_of bytes))).state.accepted
 
 -- no reply to a script was written, and no outlet
@@ -192,25 +195,25 @@ NoneOfCut bytes left held held' outlets outlets' = (outlets' ≡ outlets) × Not
 -- How the live run of a form over this many universes ended: with Ok as above; with ShowRefused as another job, and nothing in any outlet.
 -- Else it ended as another job with the status, and the outlets got nothing, or what was published of the commands that the lines which
 -- were answered came to.
-abbrev pub HasLived : {K : Type 0} → (ample : AmpleMemory) → Status → ToldBySink K → ℕ → Form → List ℕ
+abbrev pub HasLived : {K : Type 0} → (known : LiveMemory) → Status → ToldBySink K → ℕ → Form → List ℕ
     → (left held held' : Known) → (outlets outlets' : List (Option K)) → Type 0
-HasLived ample status.Ok told universes form bytes left held held' outlets outlets' =
-    PlaysWhole ample.edits told universes form bytes held held' outlets outlets'
-HasLived ample status.ShowRefused told universes form bytes left held held' outlets outlets' =
+HasLived known status.Ok told universes form bytes left held held' outlets outlets' =
+    PlaysWhole known.edits told universes form bytes held held' outlets outlets'
+HasLived known status.ShowRefused told universes form bytes left held held' outlets outlets' =
     HasEnded status.ShowRefused (Script (Live universes) form) bytes left held held' × (outlets' ≡ outlets)
-HasLived ample status.ReadFault told universes form bytes left held held' outlets outlets' =
+HasLived known status.ReadFault told universes form bytes left held held' outlets outlets' =
     HasEnded status.ReadFault (Script (Live universes) form) bytes left held held' × (NoneOfCut bytes left held held' outlets outlets'
-    ⊎ LivesTaken ample told universes form bytes left held held' outlets outlets')
-HasLived ample status.InputTooLong told universes form bytes left held held' outlets outlets' =
+    ⊎ LivesTaken known told universes form bytes left held held' outlets outlets')
+HasLived known status.InputTooLong told universes form bytes left held held' outlets outlets' =
     HasEnded status.InputTooLong (Script (Live universes) form) bytes left held held' × (NoneOfCut bytes left held held' outlets outlets'
-    ⊎ LivesTaken ample told universes form bytes left held held' outlets outlets')
-HasLived ample status.WriteFault told universes form bytes left held held' outlets outlets' =
+    ⊎ LivesTaken known told universes form bytes left held held' outlets outlets')
+HasLived known status.WriteFault told universes form bytes left held held' outlets outlets' =
     HasEnded status.WriteFault (Script (Live universes) form) bytes left held held' × (NoneOfRefused form bytes outlets outlets'
-    ⊎ LivesInFront ample told universes form bytes held held' outlets outlets')
-HasLived ample status.Memory told universes form bytes left held held' outlets outlets' =
+    ⊎ LivesInFront known told universes form bytes held held' outlets outlets')
+HasLived known status.Memory told universes form bytes left held held' outlets outlets' =
     HasEnded status.Memory (Script (Live universes) form) bytes left held held' × (NoneLived form bytes held held' outlets outlets'
-    ⊎ LivesInFront ample told universes form bytes held held' outlets outlets')
-HasLived ample other told universes form bytes left held held' outlets outlets' = ⊥
+    ⊎ LivesInFront known told universes form bytes held held' outlets outlets')
+HasLived known other told universes form bytes left held held' outlets outlets' = ⊥
 
 -- the outlets got what they were to get of some published commands over one show
 pub record ArePlayed {K : Type 0} (told : ToldBySink K) (universes : ℕ) (outlets outlets' : List (Option K)) : Type 0 where
@@ -310,13 +313,13 @@ TellsRun (Err fault) results unsent s = s ≡ status_for {A = Tally} (Err fault)
 
 -- A script was answered to its end, and the outlets got what was published of the commands that it came to; and so much is told of the
 -- outlets' faults and of how many commands were never published.
-pub record PlaysToEnd {K : Type 0} (ample : AmpleMemory) (Told : List (Option SinkFault) → ℕ → Type 0) (outlet_told : ToldBySink K)
+pub record PlaysToEnd {K : Type 0} (known : LiveMemory) (Told : List (Option SinkFault) → ℕ → Type 0) (outlet_told : ToldBySink K)
     (show : Show) (universes : ℕ) (script : List (List ℕ)) (held held' : Known) (outlets outlets' : List (Option K))
     : Type 0 where
   pub failures : List (Option ℕ)
-  pub allows : LiveAllows ample.edits show script failures (live_session show script failures).state.accepted
+  pub allows : LiveAllows known.edits show script failures (live_session show script failures).state.accepted
   pub text : Appends held held' (live_session show script failures).text
-  pub served : AreServed ample.versions outlet_told show universes outlets outlets' (live_session show script failures).state.accepted
+  pub served : AreServed known.versions outlet_told show universes outlets outlets' (live_session show script failures).state.accepted
   pub told : Told served.got.results (length served.held_back)
 
 -- no read failed, the output had no fault, and all that was written on it is handed on
@@ -340,12 +343,12 @@ DecidesInOrder status.Memory reads reads' told output output' outlets outlets' T
 DecidesInOrder other reads reads' told output output' outlets outlets' ToEnd = Unit {0}
 
 -- The same of an input: its show was read, and the script behind it was played to its end, within the limit of the input.
-pub record LivesToEnd {K : Type 0} (ample : AmpleMemory) (Told : List (Option SinkFault) → ℕ → Type 0) (told : ToldBySink K)
+pub record LivesToEnd {K : Type 0} (known : LiveMemory) (Told : List (Option SinkFault) → ℕ → Type 0) (told : ToldBySink K)
     (universes : ℕ) (form : Form) (bytes : List ℕ) (held held' : Known) (outlets outlets' : List (Option K))
     : Type 0 where
   pub reading : Reading
   pub read : reads form bytes ≡ Ok reading
-  pub plays : PlaysToEnd ample Told told reading.show universes (script_of bytes) held held' outlets outlets'
+  pub plays : PlaysToEnd known Told told reading.show universes (script_of bytes) held held' outlets outlets'
   pub within : length (input_wanted form bytes) ≤ INPUT_BYTES
 
 -- What playing the script that is left over a show comes to: from lines to lines, from an output to an output and from outlets to outlets, by
@@ -356,15 +359,15 @@ pub record PlaysLive {S O K : Type 0} (told_in : ToldBySource S) (told_out : Tol
   pub works : EndsScript s
   pub played : (outlets' ≡ outlets) ⊎ ArePlayed told universes outlets outlets'
   pub finish : OutletsFinish told universes outlets outlets' s
-  pub ended : ByLiveMemory refusals refusals' writers writers' (λ ample. IfSome (unread told_in old)
-      (λ bytes. HasPlayedLive ample s told show universes (bytes_taken old) bytes (source_left told_in new) (told_out.holds output)
+  pub ended : ByLiveMemory refusals refusals' writers writers' (λ known. IfSome (unread told_in old)
+      (λ bytes. HasPlayedLive known s told show universes (bytes_taken old) bytes (source_left told_in new) (told_out.holds output)
       (told_out.holds output') outlets outlets'))
   pub cause : HasLiveCause told s (source_faults told_in old) (source_faults told_in new) (told_out.faults output) (told_out.faults output')
       outlets outlets'
-  pub order : ByLiveMemory refusals refusals' writers writers' (λ ample.
+  pub order : ByLiveMemory refusals refusals' writers writers' (λ known.
       DecidesInOrder s (source_faults told_in old) (source_faults told_in new) told_out output output' outlets outlets'
       (λ Told. IfSome (unread told_in old)
-      (λ bytes. PlaysToEnd ample Told told show universes (lines_of bytes) (told_out.holds output) (told_out.holds output') outlets outlets'
+      (λ bytes. PlaysToEnd known Told told show universes (lines_of bytes) (told_out.holds output) (told_out.holds output') outlets outlets'
       × (bytes_taken old + length (bytes_wanted bytes) ≤ INPUT_BYTES))))
   pub finished : Finishes (source_faults told_in old) (source_faults told_in new) told_out output output' s
   pub wanted : WantsLive told_out told refusals refusals' writers writers' output output' outlets outlets' s

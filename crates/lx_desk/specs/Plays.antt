@@ -7,14 +7,14 @@ use Rattle.lx_spec.specs.Session.{Answering}
 use Rattle.lx_desk.specs.declared.desk.Status.{Status}
 use Rattle.lx_desk.specs.Done.{Accounts}
 use Rattle.lx_desk.specs.Endings.{EndsScript, HasPlayed}
-use Rattle.lx_session.specs.Spared.{ByMemory}
+use Rattle.lx_session.specs.Spared.{ByRefusals}
 
 -- The script that is left was answered from this state on, from lines to lines and from an output to an output, by a heap whose count of
 -- refusals went from one number to another.
 pub record Plays {S K : Type 0} (told_in : ToldBySource S) (told_out : ToldBySink K) (refusals refusals' : ℕ)
     (by : Answering (List ℕ)) (state : by.State) (old new : Lines S) (output output' : K) (s : Status) : Type 0 where
   pub works : EndsScript s
-  pub ended : ByMemory refusals refusals' (λ ample. IfSome (unread told_in old)
-      (λ bytes. HasPlayed ample s by state (bytes_taken old) bytes (source_left told_in new) (told_out.holds output) (told_out.holds output')))
+  pub ended : ByRefusals refusals refusals' (λ most. IfSome (unread told_in old)
+      (λ bytes. HasPlayed most s by state (bytes_taken old) bytes (source_left told_in new) (told_out.holds output) (told_out.holds output')))
   pub accounts : Accounts told_out refusals refusals' (source_faults told_in old) (source_faults told_in new) output output' s
   pub open accounts use *

@@ -1,7 +1,7 @@
 //! The job `crew`: the scripts of several operators at the same time, over a show.
 
-ghost use Rattle.std.specs.Prelude.{◌≡◌, ◌≤◌, true, false, IfSome, IsSome, Some, length};
-ghost use Rattle.lx_desk.specs.Imports.{reads, EachAt, HasStood, HandsOn, HasCrewCause, HasCrewEnded, KeepsOperators, ServesOver, TakesNoneOrWants};
+ghost use Rattle.std.specs.Prelude.{◌≡◌, ◌≤◌, IfSome, IsSome, Some, length};
+ghost use Rattle.lx_desk.specs.Imports.{reads, EachAt, ByRefusals, HandsOn, HasCrewCause, HasCrewEnded, KeepsOperators, ServesOver, TakesNoneOrWants};
 ghost use Rattle.lx_desk.specs.Imports.{TellsCrew, TellsOperators, WantsCrew, WritesCrewFront, Finishes, HasWanted};
 ghost use Rattle.lx_base.specs.declared.TheConstants.{OPERATORS};
 ghost use Rattle.lx_spec.specs.declared.Job.TheVariants.{Crew};
@@ -33,7 +33,7 @@ use std::thread::Threads;
 /// the output only where the input had none.
 ///
 /// Its memory is that of two heaps: the first's for the show and its edits, and the queue's for what the lines go through.
-/// Where the heap refused nothing no edit was refused as out of memory. Memory is told only where the heap refused some, or the
+/// No more edits were refused as out of memory than the heap refused calls. Memory is told only where the heap refused some, or the
 /// queue's did, or where the output itself is out of memory.
 pub fn run_crew_in<
     R: Threads + Wait + Sync,
@@ -57,11 +57,11 @@ pub fn run_crew_in<
     requires full { EachAt (λ place source. IsSome source) operators.old }
     ensures words { KeepsOperators (Some (Crew count form)) result input.old input.new output.old output.new operators.old operators.new }
     ensures ended { IfSome (I.left input.old)
-        (λ bytes. HasCrewEnded false S.Source count form bytes (I.left input.new) operators.old operators.new
+        (λ bytes. HasCrewEnded None S.Source count form bytes (I.left input.new) operators.old operators.new
         (K.holds output.old) (K.holds output.new) result) }
-    ensures spared { HasStood (H.refusals heap.old) (H.refusals heap.new) → IfSome (I.left input.old)
-        (λ bytes. HasCrewEnded true S.Source count form bytes (I.left input.new) operators.old operators.new
-        (K.holds output.old) (K.holds output.new) result) }
+    ensures spared { ByRefusals (H.refusals heap.old) (H.refusals heap.new) (λ most. IfSome (I.left input.old)
+        (λ bytes. HasCrewEnded most S.Source count form bytes (I.left input.new) operators.old operators.new
+        (K.holds output.old) (K.holds output.new) result)) }
     ensures prefix { IfSome (I.left input.old)
         (λ bytes. WritesCrewFront S.Source count operators.old (K.holds output.old) (K.holds output.new) (reads form bytes)) }
     ensures cause { HasCrewCause S.Source result (I.faults input.old) (I.faults input.new) (K.faults output.old) (K.faults output.new)

@@ -1,7 +1,7 @@
 //! The jobs that are done in the caller's thread.
 
-ghost use Rattle.std.specs.Prelude.{IfSome, Some, true, ◌≡◌, ◌≤◌, ℕ};
-ghost use Rattle.lx_desk.specs.Imports.{given_to, WritesPrefix, HasStood, AnswersJob, HasEnded, HasEndedBy, HasCauseOf, Finishes, HasWanted};
+ghost use Rattle.std.specs.Prelude.{IfSome, Some, ◌≡◌, ◌≤◌, ℕ};
+ghost use Rattle.lx_desk.specs.Imports.{given_to, WritesPrefix, ByRefusals, AnswersJob, HasEnded, HasEndedBy, HasCauseOf, Finishes, HasWanted};
 ghost use Rattle.lx_desk.specs.Imports.{WantsMemory};
 ghost use Rattle.lx_spec.specs.declared.Job.TheVariants.{Make};
 
@@ -45,8 +45,8 @@ pub enum Status {
 /// anything is written, or where the output itself is out of memory. A fault of the input is told only where the output had none, and one
 /// of the output only where the input had none. Where a read failed, all replies before it are handed on.
 ///
-/// All its memory is that of the heap. Where the heap refused nothing, what is written is that of a script of which no edit and no record
-/// was refused as out of memory. Memory is told only where the heap refused some, or where the output itself is out of memory.
+/// All its memory is that of the heap. What is written is that of a script of which no more edits and records were refused as out of memory
+/// than the heap refused calls. Memory is told only where the heap refused some, or where the output itself is out of memory.
 ///
 /// `run` and `crew` run beside threads: the answer is Live, and nothing is read or written. `run_live_in` and `run_crew_in` do them.
 pub fn run_job_in<H: Heap, S: Source, K: Sink>(
@@ -58,8 +58,8 @@ pub fn run_job_in<H: Heap, S: Source, K: Sink>(
     ensures answered { AnswersJob job result input.old input.new output.old output.new }
     ensures ended { IfSome (given_to job (S.left input.old))
         (λ bytes. HasEnded result job bytes (S.left input.new) (K.holds output.old) (K.holds output.new)) }
-    ensures spared { HasStood (H.refusals heap.old) (H.refusals heap.new) → IfSome (given_to job (S.left input.old))
-        (λ bytes. HasEndedBy true result job bytes (S.left input.new) (K.holds output.old) (K.holds output.new)) }
+    ensures spared { ByRefusals (H.refusals heap.old) (H.refusals heap.new) (λ most. IfSome (given_to job (S.left input.old))
+        (λ bytes. HasEndedBy most result job bytes (S.left input.new) (K.holds output.old) (K.holds output.new))) }
     ensures prefix { IfSome (given_to job (S.left input.old)) (λ bytes. WritesPrefix job bytes (K.holds output.old) (K.holds output.new)) }
     ensures cause { HasCauseOf result (S.faults input.old) (S.faults input.new) (K.faults output.old) (K.faults output.new) }
     ensures finished { Finishes (S.faults input.old) (S.faults input.new) K.Sink output.old output.new result }

@@ -34,7 +34,7 @@ use std::thread::Threads;
 /// none. Where a read failed, all replies before it are handed on.
 ///
 /// Its memory is that of two heaps: the first's for the show and its edits, and the writer's for what is published.
-/// Where the heap refused nothing no edit was refused as out of memory, as long as fewer than 2^62 commands were accepted. Where the
+/// No more edits were refused as out of memory than the heap refused calls, as long as fewer than 2^62 commands were accepted. Where the
 /// writer's refused nothing, all accepted commands were published, also where the run ended by a fault. Memory is told only where the heap
 /// refused some, or the writer's did, or where the output or an outlet itself is out of memory.
 pub fn run_live_in<
@@ -61,14 +61,14 @@ pub fn run_live_in<
     requires full { IsFull outlets.old }
     ensures outlets { KeepsOutlets K.Sink (Some (Script (Live universes) form)) result input.old input.new output.old
         output.new outlets.old outlets.new }
-    ensures ended { ByLiveMemory (H.refusals heap.old) (H.refusals heap.new) writers.old writers.new (λ ample. IfSome (S.left input.old)
-        (λ bytes. HasLived ample result K.Sink universes form bytes (S.left input.new) (O.holds output.old)
+    ensures ended { ByLiveMemory (H.refusals heap.old) (H.refusals heap.new) writers.old writers.new (λ known. IfSome (S.left input.old)
+        (λ bytes. HasLived known result K.Sink universes form bytes (S.left input.new) (O.holds output.old)
         (O.holds output.new) outlets.old outlets.new)) }
     ensures cause { HasLiveCause K.Sink result (S.faults input.old) (S.faults input.new) (O.faults output.old) (O.faults output.new)
         outlets.old outlets.new }
     ensures order { ByLiveMemory (H.refusals heap.old) (H.refusals heap.new) writers.old writers.new
-        (λ ample. DecidesInOrder result (S.faults input.old) (S.faults input.new) O.Sink output.old output.new outlets.old outlets.new
-        (λ Told. IfSome (S.left input.old) (λ bytes. LivesToEnd ample Told K.Sink universes form bytes (O.holds output.old)
+        (λ known. DecidesInOrder result (S.faults input.old) (S.faults input.new) O.Sink output.old output.new outlets.old outlets.new
+        (λ Told. IfSome (S.left input.old) (λ bytes. LivesToEnd known Told K.Sink universes form bytes (O.holds output.old)
         (O.holds output.new) outlets.old outlets.new))) }
     ensures finished { Finishes (S.faults input.old) (S.faults input.new) O.Sink output.old output.new result }
     ensures wanted { WantsLive O.Sink K.Sink (H.refusals heap.old) (H.refusals heap.new) writers.old writers.new output.old output.new

@@ -2,7 +2,7 @@
 
 ghost use Rattle.std.specs.Prelude.{◌≡◌, ◌≤◌, false, IfSome, Some};
 ghost use Rattle.lx_desk.specs.Imports.{CanAdvance, SameSource, bytes_taken, answering_of, opening_of, WritesPrefix, Does, AnswersJob, HasEndedBy};
-ghost use Rattle.lx_desk.specs.Imports.{HasCauseOf, is_live, ByMemory, Finishes, HasWanted, WantsMemory, Plays};
+ghost use Rattle.lx_desk.specs.Imports.{HasCauseOf, is_live, ByRefusals, Finishes, HasWanted, WantsMemory, Plays};
 ghost use Rattle.lx_base.specs.declared.TheConstants.{INPUT_BYTES};
 ghost use Rattle.lx_spec.specs.declared.Job.TheVariants as jobs;
 
@@ -26,8 +26,8 @@ pub(crate) fn script<H: Heap, S: Source, K: Sink>(
     output: &mut K,
 ) -> Status
     ensures answered { AnswersJob (jobs.Script kind form) result input.old input.new output.old output.new }
-    ensures ended { ByMemory (H.refusals heap.old) (H.refusals heap.new) (λ ample. IfSome (S.left input.old)
-        (λ bytes. HasEndedBy ample result (jobs.Script kind form) bytes (S.left input.new) (K.holds output.old) (K.holds output.new))) }
+    ensures ended { ByRefusals (H.refusals heap.old) (H.refusals heap.new) (λ most. IfSome (S.left input.old)
+        (λ bytes. HasEndedBy most result (jobs.Script kind form) bytes (S.left input.new) (K.holds output.old) (K.holds output.new))) }
     ensures prefix { IfSome (S.left input.old)
         (λ bytes. WritesPrefix (jobs.Script kind form) bytes (K.holds output.old) (K.holds output.new)) }
     ensures cause { HasCauseOf result (S.faults input.old) (S.faults input.new) (K.faults output.old) (K.faults output.new) }

@@ -7,7 +7,7 @@ ghost use Rattle.lx_spec.specs.Session.{Session, ends_script};
 ghost use Rattle.lx_spec.specs.TwoLists.{TwoDesks, two_answering, is_for_second};
 ghost use Rattle.lx_session.specs.LineReply.{TallyHasRoom, HasOneMore, counts_in};
 ghost use Rattle.lx_session.specs.OneAnswer.{IsLine, OneAnswer, GoesOnUnless};
-ghost use Rattle.lx_session.specs.Spared.{HasStood, spared};
+ghost use Rattle.lx_session.specs.Spared.{HasStood, spared, ByRefusals};
 ghost use Rattle.lx_session.specs.ScriptAnswer.{ScriptAnswered};
 ghost use Rattle.lx_session.specs.SessionOutcome.{HasSessionCause, KeepsLimit};
 ghost use Rattle.lx_session.specs.Waits.{HandsOnReplies};
@@ -43,7 +43,7 @@ pub fn two_session<S: Source, K: Sink>(
     ensures same_source { SameSource lines.old lines.new }
     ensures outcome { (state : TwoDesks) → TwoStand state desk.old
         → IfSome (unread S.Source lines.old)
-        (λ bytes. ScriptAnswered two_answering (λ s. TwoStand s desk.new) state (bytes_taken lines.old) bytes
+        (λ bytes. ScriptAnswered two_answering None (λ s. TwoStand s desk.new) state (bytes_taken lines.old) bytes
         (unread S.Source lines.new) (source_left S.Source lines.new) (K.holds sink.old) (K.holds sink.new) result) }
     ensures limit { IfSome (unread S.Source lines.old) (λ bytes. KeepsLimit (bytes_taken lines.old) bytes result) }
     ensures cause { HasSessionCause S.Source K.Sink lines.old lines.new sink.old sink.new result }
@@ -53,7 +53,7 @@ pub fn two_session<S: Source, K: Sink>(
     two_session_in(desk, &mut heap, lines, sink)
 }
 
-/// The same, by a heap: where it refused nothing in this call, no edit was refused as out of memory.
+/// The same, by a heap: at most as many edits as it refused calls in this call were refused as out of memory.
 pub fn two_session_in<H: Heap, S: Source, K: Sink>(
     desk: &mut TwoLists,
     heap: &mut H,
@@ -63,11 +63,10 @@ pub fn two_session_in<H: Heap, S: Source, K: Sink>(
     requires going { CanAdvance lines.old }
     requires within { bytes_taken lines.old ≤ INPUT_BYTES }
     ensures same_source { SameSource lines.old lines.new }
-    ensures outcome { (ample : Bool) → (ample ≡ true → HasStood (H.refusals heap.old) (H.refusals heap.new))
-        → (state : TwoDesks) → TwoStand state desk.old
+    ensures outcome { ByRefusals (H.refusals heap.old) (H.refusals heap.new) (λ most. (state : TwoDesks) → TwoStand state desk.old
         → IfSome (unread S.Source lines.old)
-        (λ bytes. ScriptAnswered (spared ample two_answering) (λ s. TwoStand s desk.new) state (bytes_taken lines.old) bytes
-        (unread S.Source lines.new) (source_left S.Source lines.new) (K.holds sink.old) (K.holds sink.new) result) }
+        (λ bytes. ScriptAnswered two_answering most (λ s. TwoStand s desk.new) state (bytes_taken lines.old) bytes
+        (unread S.Source lines.new) (source_left S.Source lines.new) (K.holds sink.old) (K.holds sink.new) result)) }
     ensures limit { IfSome (unread S.Source lines.old) (λ bytes. KeepsLimit (bytes_taken lines.old) bytes result) }
     ensures cause { HasSessionCause S.Source K.Sink lines.old lines.new sink.old sink.new result }
     ensures handed_on { HandsOnReplies result (K.back sink.new) }

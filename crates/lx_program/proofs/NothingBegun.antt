@@ -1,27 +1,27 @@
 -- What holds of a live run and of a crew that were not begun, since memory ran out or the words name none.
 use Rattle.std.proofs.Common.{◌⊎◌, ◌≢◌, inr, IsSome}
-use Rattle.lx_program.proofs.Imports.{◌≡◌, ◌∙◌, Option, Some, List, ℕ, Bool, refl, sym, inl, false, Form, Job, Script, Crew, Live, unwritten}
+use Rattle.lx_program.proofs.Imports.{◌≡◌, ◌∙◌, Option, None, Some, List, ℕ, refl, sym, inl, Form, Job, Script, Crew, Live, unwritten}
 use Rattle.lx_base.specs.Places.{EachAt}
 use Rattle.lx_desk.specs.declared.desk.Status.{Status}
 use Rattle.lx_program.specs.NamedJob.{NamesNoCrew, NamesNoRun}
 use Rattle.lx_desk.specs.declared.desk.Status.TheVariants as status
-use Rattle.lx_desk.specs.Live.{AmpleMemory, HasLived, KeepsOutlets}
+use Rattle.lx_desk.specs.Live.{LiveMemory, HasLived, KeepsOutlets}
 use Rattle.lx_desk.specs.Crew.{HasCrewEnded, KeepsOperators}
 use Rattle.lx_io.specs.Told.{ToldBySink, ToldBySource}
 
-pub none_lived : {K : Type 0} (ample : AmpleMemory) (told : ToldBySink K) (universes : ℕ) (form : Form)
+pub none_lived : {K : Type 0} (known : LiveMemory) (told : ToldBySink K) (universes : ℕ) (form : Form)
     (bytes : List ℕ) (left held : Option (List ℕ)) (outlets : List (Option K))
-    → HasLived ample status.Memory told universes form bytes left held held outlets outlets
-none_lived ample told universes form bytes left held outlets =
-    (unwritten false (Script (Live universes) form) bytes held, inl (refl, λ read. refl))
+    → HasLived known status.Memory told universes form bytes left held held outlets outlets
+none_lived known told universes form bytes left held outlets =
+    (unwritten None (Script (Live universes) form) bytes held, inl (refl, λ read. refl))
 
-pub none_served : {S : Type 0} (ample : Bool) (told : ToldBySource S) (count : ℕ) (form : Form) (bytes : List ℕ)
+pub none_served : {S : Type 0} (most : Option ℕ) (told : ToldBySource S) (count : ℕ) (form : Form) (bytes : List ℕ)
     (left held : Option (List ℕ)) (operators : List (Option S))
-    → HasCrewEnded ample told count form bytes left operators operators held held status.Memory
-none_served ample told count form bytes left held operators = inl (record {
+    → HasCrewEnded most told count form bytes left operators operators held held status.Memory
+none_served most told count form bytes left held operators = inl (record {
   isnt_ok = λ odd. cc;
   isnt_live = λ odd. cc;
-  ended = unwritten false (Crew count form) bytes held;
+  ended = unwritten None (Crew count form) bytes held;
   untouched = refl;
 })
 

@@ -6,7 +6,7 @@ pub use Rattle.lx_desk.specs.Endings.{AnswersWords, HasCauseOf, HasEnded, HasEnd
 pub use Rattle.lx_desk.specs.Finished.{Finishes, HasWanted}
 pub use Rattle.lx_desk.specs.Live.{any_memory, ByLiveMemory, DecidesInOrder, HasLiveCause, HasLived, KeepsOutlets, LivesToEnd}
 pub use Rattle.lx_desk.specs.Output.{WritesPrefix}
-pub use Rattle.lx_session.specs.Spared.{HasStood}
+pub use Rattle.lx_session.specs.Spared.{ByRefusals}
 pub use Rattle.lx_spec.specs.Job.{counted_job, form_of, job_of, number_alone, plain_number}
 pub use Rattle.lx_spec.specs.Phrase.{ended}
 pub use Rattle.lx_spec.specs.Reading.{reads}

@@ -1,7 +1,7 @@
 //! The program as calls: from the words and the bytes that come in to the bytes that go out.
 
 ghost use Rattle.std.specs.Prelude.{◌≡◌, ◌≤◌, ℕ, true, Some, map, string_bytes};
-ghost use Rattle.lx_program.specs.Imports.{list_any, job_of, HasStood, AnswersWords, HasCauseOf, HasEnded, HasEndedBy, Finishes, HasWanted};
+ghost use Rattle.lx_program.specs.Imports.{list_any, job_of, ByRefusals, AnswersWords, HasCauseOf, HasEnded, HasEndedBy, Finishes, HasWanted};
 ghost use Rattle.lx_program.specs.Imports.{WritesPrefix, begins_with_dash, OfJob, ReadsWordsOnce, WantsMemoryOrWords};
 ghost use Rattle.lx_spec.specs.declared.Job.TheVariants.{Make};
 
@@ -73,9 +73,9 @@ pub fn desk_in<H: Heap, S: Source, K: Sink>(
     ensures ended { OfJob (map string_bytes words.now) (S.left input.old)
         (λ job bytes. HasEnded result job bytes (S.left input.new) (K.holds output.old) (K.holds output.new)) }
 
-    // Where the heap refused nothing, no edit and no record was refused as out of memory.
-    ensures spared { HasStood (H.refusals heap.old) (H.refusals heap.new) → OfJob (map string_bytes words.now) (S.left input.old)
-        (λ job bytes. HasEndedBy true result job bytes (S.left input.new) (K.holds output.old) (K.holds output.new)) }
+    // No more edits and records were refused as out of memory than the heap refused calls.
+    ensures spared { ByRefusals (H.refusals heap.old) (H.refusals heap.new) (λ most. OfJob (map string_bytes words.now) (S.left input.old)
+        (λ job bytes. HasEndedBy most result job bytes (S.left input.new) (K.holds output.old) (K.holds output.new))) }
     ensures prefix { OfJob (map string_bytes words.now) (S.left input.old)
         (λ job bytes. WritesPrefix job bytes (K.holds output.old) (K.holds output.new)) }
     ensures cause { HasCauseOf result (S.faults input.old) (S.faults input.new) (K.faults output.old) (K.faults output.new) }

@@ -1,7 +1,7 @@
 //! A crew as a call: `crew N`.
 
-ghost use Rattle.std.specs.Prelude.{◌≡◌, ◌≤◌, true, false, IsSome, length, map, string_bytes};
-ghost use Rattle.lx_program.specs.Imports.{EachAt, job_of, reads, HasStood, HandsOn, HasCrewCause, HasCrewEnded, KeepsOperators, TakesNoneOrWants};
+ghost use Rattle.std.specs.Prelude.{◌≡◌, ◌≤◌, true, IsSome, length, map, string_bytes};
+ghost use Rattle.lx_program.specs.Imports.{EachAt, job_of, reads, ByRefusals, HandsOn, HasCrewCause, HasCrewEnded, KeepsOperators, TakesNoneOrWants};
 ghost use Rattle.lx_program.specs.Imports.{WritesCrewFront, Finishes, HasWanted, OfCrew, in_use, ReadsWordsOnce, WantsCrewOrWords, begins_with_dash, list_any};
 ghost use Rattle.lx_base.specs.declared.TheConstants.{OPERATORS};
 
@@ -41,7 +41,7 @@ pub fn desk_crew<R: Threads + Wait + Sync, I: Source, S: Source + Send + Drop, K
     // After a fault of an operator it has those of its lines that were taken whole; after a fault of the output it is a prefix of such a text.
     // A show that is refused, or couldn't be read, ends as another job's, and no operator's source is read.
     ensures ended { OfCrew (job_of (map string_bytes words.now)) (I.left input.old)
-        (λ count form bytes. HasCrewEnded false S.Source count form bytes (I.left input.new) operators.old operators.new
+        (λ count form bytes. HasCrewEnded None S.Source count form bytes (I.left input.new) operators.old operators.new
         (K.holds output.old) (K.holds output.new) result) }
 
     // After every status it is a prefix of such a text, or of the line of a refused show.
@@ -100,13 +100,13 @@ pub fn desk_crew_in<
     ensures words { KeepsOperators (job_of (map string_bytes words.now)) result input.old input.new output.old output.new operators.old
         operators.new }
     ensures ended { OfCrew (job_of (map string_bytes words.now)) (I.left input.old)
-        (λ count form bytes. HasCrewEnded false S.Source count form bytes (I.left input.new) operators.old operators.new
+        (λ count form bytes. HasCrewEnded None S.Source count form bytes (I.left input.new) operators.old operators.new
         (K.holds output.old) (K.holds output.new) result) }
 
-    // Where the heap refused nothing no edit was refused as out of memory.
-    ensures spared { HasStood (H.refusals heap.old) (H.refusals heap.new) → OfCrew (job_of (map string_bytes words.now)) (I.left input.old)
-        (λ count form bytes. HasCrewEnded true S.Source count form bytes (I.left input.new) operators.old operators.new
-        (K.holds output.old) (K.holds output.new) result) }
+    // No more edits were refused as out of memory than the heap refused calls.
+    ensures spared { ByRefusals (H.refusals heap.old) (H.refusals heap.new) (λ most. OfCrew (job_of (map string_bytes words.now))
+        (I.left input.old) (λ count form bytes. HasCrewEnded most S.Source count form bytes (I.left input.new) operators.old operators.new
+        (K.holds output.old) (K.holds output.new) result)) }
     ensures prefix { OfCrew (job_of (map string_bytes words.now)) (I.left input.old)
         (λ count form bytes. WritesCrewFront S.Source count operators.old (K.holds output.old) (K.holds output.new) (reads form bytes)) }
     ensures finished { Finishes (I.faults input.old) (I.faults input.new) K.Sink output.old output.new result }

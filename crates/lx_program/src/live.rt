@@ -108,18 +108,18 @@ pub fn desk_live_in<
     ensures outlets { KeepsOutlets K.Sink (job_of (map string_bytes words.now)) result input.old input.new output.old
         output.new outlets.old outlets.new }
 
-    // Where the heap refused nothing no edit was refused as out of memory, as long as fewer than 2^62 commands were accepted. Where the
+    // No more edits were refused as out of memory than the heap refused calls, as long as fewer than 2^62 commands were accepted. Where the
     // writer's refused nothing all accepted commands were published, however the run ended.
     ensures ended { ByLiveMemory (H.refusals heap.old) (H.refusals heap.new) writers.old writers.new
-        (λ ample. OfRun (job_of (map string_bytes words.now)) (S.left input.old)
-        (λ universes form bytes. HasLived ample result K.Sink universes form bytes (S.left input.new) (O.holds output.old)
+        (λ known. OfRun (job_of (map string_bytes words.now)) (S.left input.old)
+        (λ universes form bytes. HasLived known result K.Sink universes form bytes (S.left input.new) (O.holds output.old)
         (O.holds output.new) outlets.old outlets.new)) }
     ensures cause { HasLiveCause K.Sink result (S.faults input.old) (S.faults input.new) (O.faults output.old) (O.faults output.new)
         outlets.old outlets.new }
     ensures order { ByLiveMemory (H.refusals heap.old) (H.refusals heap.new) writers.old writers.new
-        (λ ample. DecidesInOrder result (S.faults input.old) (S.faults input.new) O.Sink output.old output.new outlets.old outlets.new
+        (λ known. DecidesInOrder result (S.faults input.old) (S.faults input.new) O.Sink output.old output.new outlets.old outlets.new
         (λ Told. OfRun (job_of (map string_bytes words.now)) (S.left input.old)
-        (λ universes form bytes. LivesToEnd ample Told K.Sink universes form bytes (O.holds output.old) (O.holds output.new)
+        (λ universes form bytes. LivesToEnd known Told K.Sink universes form bytes (O.holds output.old) (O.holds output.new)
         outlets.old outlets.new))) }
     ensures finished { Finishes (S.faults input.old) (S.faults input.new) O.Sink output.old output.new result }
     ensures dash { list_any begins_with_dash (map string_bytes words.now) ≡ true → result ≡ Status.Usage }

@@ -26,7 +26,7 @@ pub use Rattle.lx_session.specs.LineReply.{counted, counts_after, counts_in, IsU
 pub use Rattle.lx_session.specs.LineState.{frame_of, LineState, meaning_of, next_of, unattempted}
 pub use Rattle.lx_session.specs.Listening.{Beginning, HasDone, HasHeard}
 pub use Rattle.lx_session.specs.OneAnswer.{ExtendsText, GoesOnBy, GoesOnUnless, IsLawful, IsLine, OneAnswer}
-pub use Rattle.lx_session.specs.Spared.{HasStood, IsAmple, MayFailUnless, MayTake, spared}
+pub use Rattle.lx_session.specs.Spared.{failed_count, HasStood, IsAmple, IsAtMost, IsMost, MayFailUnless, MayTake, RoseAtMost, RoseBy, spared}
 pub use Rattle.lx_session.specs.ScriptAnswer.{AnsweredPrefix, AnsweredTaken, AnsweredWhole, ScriptAnswered}
 pub use Rattle.lx_session.specs.SessionOutcome.{KeepsLimit}
 pub use Rattle.lx_session.specs.declared.fault.SessionFault.{SessionFault}

@@ -1,4 +1,5 @@
 pub mod Stood
+pub mod Refusals
 pub mod AttemptSteps
 pub mod ValidNext
 pub mod ShownDesk

@@ -6,7 +6,7 @@ use Rattle.lx_session.proofs.Imports.{Appends-kept, map-append, length-map, Appe
 use Rattle.lx_session.proofs.Imports.{LinesBetween, handed_then, all_texts, without_cr, lines_of, first_lines, Session, Answering, begin_at, after_each}
 use Rattle.lx_session.proofs.Imports.{ends_script, answered_lines, whole_session, session_after, Allows, Tally, Known, QuitLine, HalfAnsweredLine}
 use Rattle.lx_session.proofs.Imports.{Untouched, ScriptEnd, SinkStop, LineOutcome, counts_in, IsLawful, AnsweredWhole, AnsweredPrefix, AnsweredTaken}
-use Rattle.lx_session.proofs.Imports.{ScriptAnswered, KeepsLimit, SessionFault, ToldBySource, AppendsAtLeast, ◌-◌, ◌≤◌}
+use Rattle.lx_session.proofs.Imports.{ScriptAnswered, KeepsLimit, SessionFault, ToldBySource, AppendsAtLeast, ◌-◌, ◌≤◌, Bool, failed_count, IsAtMost, is_some, refl, spared}
 use Rattle.std.proofs.Math.Seq.{take-append-add, take-append-le}
 use Rattle.std.proofs.lemmas.List.{take_at}
 use Rattle.lx_lex.proofs.CuttingOff.{cut_off}
@@ -14,7 +14,9 @@ use Rattle.lx_session.specs.declared.fault.SessionFault.TheVariants.{ReadFault, 
 use Rattle.lx_session.proofs.EachLine.{more_text, allowed_further}
 use Rattle.std.proofs.lemmas.Option.{IfSome_then}
 use Rattle.lx_session.proofs.Fronts.{front_of, front_whole, front_more, front_then, at_least_then}
-use Rattle.lx_session.proofs.SoFar.{GoOn, Done, SoFar, Passed, before_last, done_more, with_both}
+use Rattle.lx_session.proofs.Refusals.{none_spared}
+use Rattle.lx_lex.proofs.Feeds.{count_by-append}
+use Rattle.lx_session.proofs.SoFar.{GoOn, Done, SoFar, PaysMore, Passed, before_last, done_more, with_both}
 use Rattle.lx_session.proofs.SoFar.{begins, begins_more, ends_after, ends_here, too_long}
 
 -- what the lines before the end are
@@ -60,15 +62,16 @@ but_last by state raws rest failures h h' p =
     subst (λ ls. AppendsAtLeast h h' (after_each by failures (begin_at state) ls).text)
     (ap (λ n. take (n - 1) lines) count ∙ sym first) p
 
--- These lines were done.
+-- These lines were done, and of no more than so many an attempt failed.
 module _ {by : Answering (List ℕ)} {state : by.State} {lines : List (List ℕ)} {failures : List (Option ℕ)} {now : Session by.State}
-    (done : Done by state lines failures now) where
+    (done : Done by state lines failures now) (most : Option ℕ) (few : IsAtMost most (failed_count failures)) where
   -- the whole script was answered
   answers_all : {Stands : by.State → Type 0} {script : List (List ℕ)} {h h' : Known} {tally : Tally} → answered_lines script ≡ lines
-      → Appends h h' now.text → Stands now.state → now.counts ≡ counts_in tally → AnsweredWhole by Stands state script h h' tally
+      → Appends h h' now.text → Stands now.state → now.counts ≡ counts_in tally → AnsweredWhole by most Stands state script h h' tally
   answers_all is appended stands counts = record {
     failures = failures;
     allows = rw is done.allowed;
+    few = few;
     text = rw (is, done.is) appended;
     counts = rw (is, done.is) (sym counts);
     stands = rw (is, done.is) stands;
@@ -82,10 +85,11 @@ module _ {by : Answering (List ℕ)} {state : by.State} {lines : List (List ℕ)
   answers_front : {Stands : by.State → Type 0} {xs : List ℕ} {o h h' : Known} (rest : List (List ℕ)) (n : ℕ)
       → answered_lines (lines_of xs) ≡ lines ++ rest → take n (lines ++ rest) ≡ lines → IfSome o (λ ys. xs ≡ first_lines n xs ++ ys)
       → AppendsFront h h' now.text → AppendsAtLeast h h' (after_each by failures (begin_at state) (take (n - 1) (lines ++ rest))).text
-      → Stands now.state → AnsweredPrefix by Stands state xs o h h'
+      → Stands now.state → AnsweredPrefix by most Stands state xs o h h'
   answers_front {xs = xs} rest n is first handed text earlier stands = record {
     failures = failures;
     allows = allows_all (lines_of xs) rest is;
+    few = few;
     lines = n;
     handed = handed;
     text = rw (is, first, done.is) text;
@@ -93,78 +97,86 @@ module _ {by : Answering (List ℕ)} {state : by.State} {lines : List (List ℕ)
     stands = rw (is, first, done.is) stands;
   }
 
--- A session has come so far, and then what answers stands for a state in this sense, the lines are these, and this was written.
-module _ {S : Type 0} {by : Answering (List ℕ)} {Stood : by.State → Type 0} {told : ToldBySource S} {a b : Lines S} {state : by.State}
-    {tally : Tally} {h h' : Known} (s : SoFar by Stood told a b state tally h h') (Stands : by.State → Type 0) (c : Lines S) (h'' : Known) where
+-- A session has come so far, and then what answers stands for a state in this sense, the lines are these, and this was written. With the
+-- line that was taken then, of which no attempt failed where memory was ample, no more than so many failed.
+module _ {S : Type 0} {by : Answering (List ℕ)} {Paid : List (Option ℕ) → Type 0} {Stood : by.State → Type 0} {told : ToldBySource S}
+    {a b : Lines S} {state : by.State} {tally : Tally} {h h' : Known} (s : SoFar by Paid Stood told a b state tally h h') (ample : Bool)
+    (most : Option ℕ) (few : PaysMore ample s.failures (λ failures. IsAtMost most (failed_count failures))) (Stands : by.State → Type 0)
+    (c : Lines S) (h'' : Known) where
   abbrev lines : List (List ℕ)
   lines = map without_cr s.raws
 
+  few_now : IsAtMost most (failed_count s.failures)
+  few_now = subst (IsAtMost most) (let e = count_by-append is_some s.failures (None ∷ []) in omega (arith, e)) (few None (λ is. refl))
+
   -- The script has ended: the whole text was written.
   pub so_far_ends : {tally' : Tally} → ScriptEnd Stands h' h'' s.now tally' → IsAtEnd (unread told b) ⊎ QuitLine told b c
-      → IfSome (unread told a) (λ bytes. AnsweredWhole by Stands state (lines_of bytes) h h'' tally')
+      → IfSome (unread told a) (λ bytes. AnsweredWhole by most Stands state (lines_of bytes) h h'' tally')
   so_far_ends e how =
       let appended = Appends-kept h h' h'' s.now.text s.appended e.same.kept in
       elim how [
         | inl end ↦
             IfSome_then (unread told a) (all_texts (unread told a) (unread told b) a.taken b.taken s.raws s.handed.took end)
-            (λ xs is. answers_all s.done (ap (before_first ends_script) is ∙ before_all lines s.done.go_on) appended e.same.stands e.counts)
+            (λ xs is. answers_all s.done most few_now (ap (before_first ends_script) is ∙ before_all lines s.done.go_on) appended e.same.stands e.counts)
         | inr q ↦
             IfSome_then (unread told a) (begins_more s.raws q.raw (handed_then told a b c s.raws (q.raw ∷ []) s.handed q.handed).took)
-            (λ xs is. answers_all s.done
+            (λ xs is. answers_all s.done most few_now
             (ap (before_first ends_script) is.1 ∙ before_quit lines (without_cr q.raw) is.0 s.done.go_on q.quits) appended e.same.stands e.counts)
       ]
 
   -- The sink failed: a front was written of what answers these lines, and the whole of what answers all but the last of them,
   front_written : (raws : List (List ℕ)) {failures : List (Option ℕ)} {now : Session by.State} → Done by state (map without_cr raws) failures now
+      → IsAtMost most (failed_count failures)
       → IfSome (unread told a) (λ xs. (rest : List (List ℕ)) × (lines_of xs ≡ map without_cr raws ++ rest))
       → IfSome (unread told a) (λ xs. IfSome (unread told c) (λ zs. xs ≡ first_lines (length raws) xs ++ zs)) → AppendsFront h h'' now.text
       → AppendsAtLeast h h'' (after_each by failures (begin_at state) (take (length (map without_cr raws) - 1) (map without_cr raws))).text
-      → Stands now.state → IfSome (unread told a) (λ bytes. AnsweredPrefix by Stands state bytes (unread told c) h h'')
-  front_written raws {failures} done begun handed text earlier stands =
+      → Stands now.state → IfSome (unread told a) (λ bytes. AnsweredPrefix by most Stands state bytes (unread told c) h h'')
+  front_written raws {failures} done few begun handed text earlier stands =
       with_both (unread told a) _ _ _ begun handed (λ xs is handed.
       let rest = before_first ends_script is.0 in
-      answers_front done rest (length raws) (ap (before_first ends_script) is.1 ∙ before_end (map without_cr raws) is.0 done.go_on)
+      answers_front done most few rest (length raws) (ap (before_first ends_script) is.1 ∙ before_end (map without_cr raws) is.0 done.go_on)
       (take_raws raws rest) handed text (but_last by state raws rest failures h h'' earlier) stands)
 
   -- between two lines,
   stops : Untouched Stands h' h'' s.now → IfSome (unread told b) (λ xs. IfSome (unread told c) (λ ys. xs ≡ ys))
-      → IfSome (unread told a) (λ bytes. AnsweredPrefix by Stands state bytes (unread told c) h h'')
+      → IfSome (unread told a) (λ bytes. AnsweredPrefix by most Stands state bytes (unread told c) h h'')
   stops u same =
       let appended = Appends-kept h h' h'' s.now.text s.appended u.kept in
-      front_written s.raws s.done (begins s.handed.took) (handed_still (unread told c) s.handed.took same) (front_whole h h'' s.now.text appended)
+      front_written s.raws s.done few_now (begins s.handed.took) (handed_still (unread told c) s.handed.took same) (front_whole h h'' s.now.text appended)
       (s.done.earlier.more, subst (λ (v : List ℕ). Appends h h'' v) s.done.earlier.text appended) u.stands
 
   -- after the line that ends the script,
   stops_at_quit : Untouched Stands h' h'' s.now → QuitLine told b c
-      → IfSome (unread told a) (λ bytes. AnsweredPrefix by Stands state bytes (unread told c) h h'')
+      → IfSome (unread told a) (λ bytes. AnsweredPrefix by most Stands state bytes (unread told c) h h'')
   stops_at_quit u q =
       let n = length (s.raws ++ q.raw ∷ []) in
       let appended = Appends-kept h h' h'' s.now.text s.appended u.kept in
       let both = handed_then told a b c s.raws (q.raw ∷ []) s.handed q.handed in
-      let most : length lines ≤ n - 1 = omega (arith, length-append s.raws (q.raw ∷ []), length-map s.raws without_cr) in
+      let short : length lines ≤ n - 1 = omega (arith, length-append s.raws (q.raw ∷ []), length-map s.raws without_cr) in
       with_both (unread told a) _ _ _ (begins_more s.raws q.raw both.took)
       (handed_all both.took) (λ xs is handed.
-      answers_front s.done [] n (ap (before_first ends_script) is.1 ∙ before_quit lines (without_cr q.raw) is.0 s.done.go_on q.quits
-      ∙ sym (append-nil lines)) (ap (take n) (append-nil lines) ∙ take_all n lines (omega (arith, most))) handed
+      answers_front s.done most few_now [] n (ap (before_first ends_script) is.1 ∙ before_quit lines (without_cr q.raw) is.0 s.done.go_on q.quits
+      ∙ sym (append-nil lines)) (ap (take n) (append-nil lines) ∙ take_all n lines (omega (arith, short))) handed
       (front_whole h h'' s.now.text appended)
-      ([], rw (append-nil lines, take_all (n - 1) lines most, s.done.is, append-nil s.now.text) appended) u.stands)
+      ([], rw (append-nil lines, take_all (n - 1) lines short, s.done.is, append-nil s.now.text) appended) u.stands)
 
   -- or within a reply.
-  stops_in_reply : HalfAnsweredLine by Stands told b c h' h'' s.now
-      → IfSome (unread told a) (λ bytes. AnsweredPrefix by Stands state bytes (unread told c) h h'')
+  stops_in_reply : HalfAnsweredLine (spared ample by) Stands told b c h' h'' s.now
+      → IfSome (unread told a) (λ bytes. AnsweredPrefix by most Stands state bytes (unread told c) h h'')
   stops_in_reply t =
       let w = t.part.done in
       let both = handed_then told a b c s.raws (t.raw ∷ []) s.handed t.handed in
       let lines_are : map without_cr (s.raws ++ t.raw ∷ []) ≡ lines ++ without_cr t.raw ∷ [] = map-append without_cr s.raws (t.raw ∷ []) in
       let done : Done by state (map without_cr (s.raws ++ t.raw ∷ [])) (s.failures ++ w.failed ∷ []) w.next =
-      rw lines_are (done_more s.done w) in
-      front_written (s.raws ++ t.raw ∷ []) done (begins both.took) (handed_all both.took)
+      rw lines_are (done_more s.done ample w) in
+      front_written (s.raws ++ t.raw ∷ []) done
+      (few w.failed (none_spared ample w.failed (by.MayFail s.now.state (without_cr t.raw)) w.goes_on.allowed)) (begins both.took) (handed_all both.took)
       (rw w.text (front_then h h' h'' s.now.text t.part.reply s.appended t.part.front))
       (rw (lines_are, before_last (without_cr t.raw) w.failed s.done)
       (at_least_then h h' h'' s.now.text t.part.reply s.appended t.part.front)) w.stands
 
-  so_far_stops : SinkStop by Stands told b c h' h'' s.now
-      → IfSome (unread told a) (λ bytes. AnsweredPrefix by Stands state bytes (unread told c) h h'')
+  so_far_stops : SinkStop (spared ample by) Stands told b c h' h'' s.now
+      → IfSome (unread told a) (λ bytes. AnsweredPrefix by most Stands state bytes (unread told c) h h'')
   so_far_stops how = elim how [
     | inl whole ↦ elim whole.1 [
       | inl same ↦ stops whole.0 same
@@ -175,7 +187,7 @@ module _ {S : Type 0} {by : Answering (List ℕ)} {Stood : by.State → Type 0} 
 
   -- The source failed, or its limit was passed.
   so_far_unread : Untouched Stands h' h'' s.now → NotTaken told b c
-      → IfSome (unread told a) (λ bytes. AnsweredTaken by Stands state a.taken bytes (told.left c.source.now) h h'')
+      → IfSome (unread told a) (λ bytes. AnsweredTaken by most Stands state a.taken bytes (told.left c.source.now) h h'')
   so_far_unread u n =
       with_both (unread told a) _ _ _ (begins s.handed.took)
       (cut_off told a b c s.raws s.handed.took n) (λ xs is cut.
@@ -183,7 +195,8 @@ module _ {S : Type 0} {by : Answering (List ℕ)} {Stood : by.State → Type 0} 
       let before : answered_lines (lines_of xs) ≡ lines ++ rest = ap answered_lines is.1 ∙ before_end lines is.0 s.done.go_on in
       record {
         failures = s.failures;
-        allows = allows_all s.done (lines_of xs) rest before;
+        allows = allows_all s.done most few_now (lines_of xs) rest before;
+        few = few_now;
         cut = cut.0;
         short =
             let at = ap (position_or_len ends_script) is.1 in
@@ -193,17 +206,21 @@ module _ {S : Type 0} {by : Answering (List ℕ)} {Stood : by.State → Type 0} 
       })
 
 -- The session ended by a fault.
-pub so_far_fails : {S Since : Type 0} {by : Answering (List ℕ)} {told : ToldBySource S} {a b : Lines S} {state : by.State} {tally : Tally}
-    {h h' : Known} (Stood Stands : Since → by.State → Type 0) (since : Since) (c : Lines S) (tally' : Tally) (h'' : Known) (fault : SessionFault)
-    → SoFar by (Stood since) told a b state tally h h' → LineOutcome by Stood Stands told b c h' h'' tally tally' (Err fault)
+pub so_far_fails : {S Since : Type 0} {by : Answering (List ℕ)} {Paid : List (Option ℕ) → Type 0} {told : ToldBySource S} {a b : Lines S}
+    {state : by.State} {tally : Tally} {h h' : Known} (Stood Stands : Since → by.State → Type 0) (since : Since) (c : Lines S) (tally' : Tally)
+    (h'' : Known) (fault : SessionFault) (s : SoFar by Paid (Stood since) told a b state tally h h') (ample : Bool) (most : Option ℕ)
+    → PaysMore ample s.failures (λ failures. IsAtMost most (failed_count failures))
+    → LineOutcome (spared ample by) Stood Stands told b c h' h'' tally tally' (Err fault)
     → IfSome (unread told a)
-    (λ bytes. ScriptAnswered by (Stands since) state a.taken bytes (unread told c) (told.left c.source.now) h h'' (Err fault))
-so_far_fails Stood Stands since c tally' h'' ReadFault s o =
-    so_far_unread s (Stands since) c h'' (o.same since s.now s.stands s.counts) o.cut
-so_far_fails Stood Stands since c tally' h'' InputTooLong s o =
-    so_far_unread s (Stands since) c h'' (o.0.same since s.now s.stands s.counts) o.0.cut
-so_far_fails Stood Stands since c tally' h'' WriteFault s o = so_far_stops s (Stands since) c h'' (o since s.now s.stands s.counts)
-so_far_fails Stood Stands since c tally' h'' Memory s o = so_far_stops s (Stands since) c h'' (o since s.now s.stands s.counts)
+    (λ bytes. ScriptAnswered by most (Stands since) state a.taken bytes (unread told c) (told.left c.source.now) h h'' (Err fault))
+so_far_fails Stood Stands since c tally' h'' ReadFault s ample most few o =
+    so_far_unread s ample most few (Stands since) c h'' (o.same since s.now s.stands s.counts) o.cut
+so_far_fails Stood Stands since c tally' h'' InputTooLong s ample most few o =
+    so_far_unread s ample most few (Stands since) c h'' (o.0.same since s.now s.stands s.counts) o.0.cut
+so_far_fails Stood Stands since c tally' h'' WriteFault s ample most few o =
+    so_far_stops s ample most few (Stands since) c h'' (o since s.now s.stands s.counts)
+so_far_fails Stood Stands since c tally' h'' Memory s ample most few o =
+    so_far_stops s ample most few (Stands since) c h'' (o since s.now s.stands s.counts)
 
 -- The limit of the input.
 always : (o : Option (List ℕ)) (P : List ℕ → Type 0) → ((xs : List ℕ) → P xs) → IfSome o P
@@ -240,12 +257,14 @@ first_of_whole by lawful state script failures n h h' p =
     front_of h h' (session_after by state script failures n).text more.0 (whole_session by state script failures).text more.1 p
 
 -- What answers stands for a state in another sense, too.
-module _ (by : Answering (List ℕ)) (Stands Stands' : by.State → Type 0) (also : (s : by.State) → Stands s → Stands' s) (state : by.State) where
-  prefix_as : (bytes : List ℕ) (unread h h' : Known) → AnsweredPrefix by Stands state bytes unread h h'
-      → AnsweredPrefix by Stands' state bytes unread h h'
+module _ (by : Answering (List ℕ)) (most : Option ℕ) (Stands Stands' : by.State → Type 0) (also : (s : by.State) → Stands s → Stands' s)
+    (state : by.State) where
+  prefix_as : (bytes : List ℕ) (unread h h' : Known) → AnsweredPrefix by most Stands state bytes unread h h'
+      → AnsweredPrefix by most Stands' state bytes unread h h'
   prefix_as bytes unread h h' a = record {
     failures = a.failures;
     allows = a.allows;
+    few = a.few;
     lines = a.lines;
     handed = a.handed;
     text = a.text;
@@ -253,15 +272,15 @@ module _ (by : Answering (List ℕ)) (Stands Stands' : by.State → Type 0) (als
     stands = also _ a.stands;
   }
 
-  taken_as : (before : ℕ) (bytes : List ℕ) (left h h' : Known) → AnsweredTaken by Stands state before bytes left h h'
-      → AnsweredTaken by Stands' state before bytes left h h'
+  taken_as : (before : ℕ) (bytes : List ℕ) (left h h' : Known) → AnsweredTaken by most Stands state before bytes left h h'
+      → AnsweredTaken by most Stands' state before bytes left h h'
   taken_as before bytes left h h' a =
-      record { failures = a.failures; allows = a.allows; cut = a.cut; short = a.short; text = a.text; stands = also _ a.stands }
+      record { failures = a.failures; allows = a.allows; few = a.few; cut = a.cut; short = a.short; text = a.text; stands = also _ a.stands }
 
   pub stands_as : (before : ℕ) (bytes : List ℕ) (unread left h h' : Known) (r : Result Tally SessionFault)
-      → ScriptAnswered by Stands state before bytes unread left h h' r → ScriptAnswered by Stands' state before bytes unread left h h' r
+      → ScriptAnswered by most Stands state before bytes unread left h h' r → ScriptAnswered by most Stands' state before bytes unread left h h' r
   stands_as before bytes unread left h h' (Ok tally) a =
-      record { failures = a.failures; allows = a.allows; text = a.text; counts = a.counts; stands = also _ a.stands }
+      record { failures = a.failures; allows = a.allows; few = a.few; text = a.text; counts = a.counts; stands = also _ a.stands }
   stands_as before bytes unread left h h' (Err ReadFault) a = taken_as before bytes left h h' a
   stands_as before bytes unread left h h' (Err InputTooLong) a = taken_as before bytes left h h' a
   stands_as before bytes unread left h h' (Err WriteFault) a = prefix_as bytes unread h h' a

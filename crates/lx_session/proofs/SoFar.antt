@@ -5,12 +5,13 @@ use Rattle.lx_session.proofs.Imports.{append_assoc, length-append, arith, positi
 use Rattle.lx_session.proofs.Imports.{map-append, length-map, INPUT_BYTES, Lines, HandedOut, unread, current_line, handed_none, handed_then, LinesBetween}
 use Rattle.lx_session.proofs.Imports.{StepOf, texts, lines_within, next_too_long, without_cr, lines_of, first_lines, Session, Answering, begin_at, after_each}
 use Rattle.lx_session.proofs.Imports.{AreAllowed, ends_script, lines_wanted, bytes_wanted, Tally, Known, DoneLine, PassedLine, QuitLine, AnsweredLine}
-use Rattle.lx_session.proofs.Imports.{counts_in, ToldBySource, ◌-◌, take, ExtendsText}
+use Rattle.lx_session.proofs.Imports.{counts_in, ToldBySource, ◌-◌, take, ExtendsText, Bool, spared}
 use Rattle.std.proofs.lemmas.Option.{IfSome_then}
 use Rattle.lx_spec.proofs.Lists.{all_append}
 use Rattle.lx_lex.specs.declared.lines.Step.TheVariants.{InputTooLong}
 use Rattle.lx_lex.proofs.FirstLines.{first_lines-longer}
 use Rattle.lx_session.proofs.EachLine.{each-append, each-before, allowed-append}
+use Rattle.lx_session.proofs.Refusals.{none_spared, unspared}
 
 -- no line ends the script
 abbrev pub GoOn : List (List ℕ) → Type 0
@@ -38,8 +39,8 @@ before_last {by} {state} {script} {failures} line failed done =
 -- one more line
 pub done_more : {by : Answering (List ℕ)} {Stands : by.State → Type 0} {state : by.State} {script : List (List ℕ)}
     {failures : List (Option ℕ)} {now : Session by.State} {line reply : List ℕ} → Done by state script failures now
-    → (w : DoneLine by Stands now line reply) → Done by state (script ++ line ∷ []) (failures ++ w.failed ∷ []) w.next
-done_more {by} {state} {script} {failures} {line} {reply} done w =
+    → (ample : Bool) (w : DoneLine (spared ample by) Stands now line reply) → Done by state (script ++ line ∷ []) (failures ++ w.failed ∷ []) w.next
+done_more {by} {state} {script} {failures} {now} {line} {reply} done ample w =
     let one = w.failed ∷ [] in
     record {
       go_on = all_append (λ l. ends_script l ≡ false) script (line ∷ []) done.go_on (w.more, tt);
@@ -47,32 +48,36 @@ done_more {by} {state} {script} {failures} {line} {reply} done w =
       is = each-append by failures one (begin_at state) script (line ∷ []) done.each
           ∙ ap (λ s. by.answer w.failed s line) done.is ∙ w.goes_on.is;
       allowed = allowed-append by failures one (begin_at state) script (line ∷ []) done.each done.allowed
-          (subst (λ s. AreAllowed by one s (line ∷ [])) (sym done.is) (w.goes_on.allowed, tt));
+          (subst (λ s. AreAllowed by one s (line ∷ [])) (sym done.is)
+          (unspared ample w.failed (by.MayFail now.state line) w.goes_on.allowed, tt));
       earlier = record {
         more = reply;
         text = w.text ∙ ap (λ (s : Session by.State). s.text ++ reply) (sym (before_last line w.failed done));
       };
     }
 
--- The lines that were handed out from a to b are done and answered, and what answers stands for the state after them.
-pub record SoFar {S : Type 0} (by : Answering (List ℕ)) (Stands : by.State → Type 0) (told : ToldBySource S) (a b : Lines S)
+-- The lines that were handed out from a to b are done and answered, and what answers stands for the state after them. Those of which an
+-- attempt failed are paid for.
+pub record SoFar {S : Type 0} (by : Answering (List ℕ)) (Paid : List (Option ℕ) → Type 0) (Stands : by.State → Type 0) (told : ToldBySource S) (a b : Lines S)
     (state : by.State) (tally : Tally) (h h' : Known) : Type 0 where
   pub raws : List (List ℕ)
   pub handed : HandedOut told a b raws
   pub failures : List (Option ℕ)
+  pub paid : Paid failures
   pub now : Session by.State
   pub done : Done by state (map without_cr raws) failures now
   pub stands : Stands now.state
   pub appended : Appends h h' now.text
   pub counts : now.counts ≡ counts_in tally
 
-pub so_far_none : {S : Type 0} {by : Answering (List ℕ)} {Stands : by.State → Type 0} {told : ToldBySource S} {a : Lines S}
-    {state : by.State} {tally : Tally} {h : Known} → IsTrue a.going → Stands state
-    → counts_in tally ≡ record { ok = 0; refused = 0; bad = 0 } → SoFar by Stands told a a state tally h h
-so_far_none {told} {a} {state} {h} going stands counts = record {
+pub so_far_none : {S : Type 0} {by : Answering (List ℕ)} {Paid : List (Option ℕ) → Type 0} {Stands : by.State → Type 0} {told : ToldBySource S}
+    {a : Lines S} {state : by.State} {tally : Tally} {h : Known} → IsTrue a.going → Paid [] → Stands state
+    → counts_in tally ≡ record { ok = 0; refused = 0; bad = 0 } → SoFar by Paid Stands told a a state tally h h
+so_far_none {told} {a} {state} {h} going paid stands counts = record {
   raws = [];
   handed = handed_none told a going;
   failures = [];
+  paid = paid;
   now = begin_at state;
   done = done_none;
   stands = stands;
@@ -80,18 +85,24 @@ so_far_none {told} {a} {state} {h} going stands counts = record {
   counts = sym counts;
 }
 
-pub so_far_more : {S : Type 0} {by : Answering (List ℕ)} {Stood Stands : by.State → Type 0} {told : ToldBySource S}
-    {a b c : Lines S} {state : by.State} {tally tally' : Tally} {h h' h'' : Known}
-    → (s : SoFar by Stood told a b state tally h h') → AnsweredLine by Stands told b c h' h'' s.now tally'
-    → SoFar by Stands told a c state tally' h h''
-so_far_more {by} {told} {a} {b} {c} {state} {h} {h'} {h''} s t =
+-- what is paid for one line more, of which no attempt failed where memory was ample
+abbrev pub PaysMore : Bool → List (Option ℕ) → (List (Option ℕ) → Type 0) → Type 0
+PaysMore ample failures Paid = (failed : Option ℕ) → (ample ≡ true → failed ≡ None) → Paid (failures ++ failed ∷ [])
+
+pub so_far_more : {S : Type 0} {by : Answering (List ℕ)} {Paid Paid' : List (Option ℕ) → Type 0} {Stood Stands : by.State → Type 0}
+    {told : ToldBySource S} {a b c : Lines S} {state : by.State} {tally tally' : Tally} {h h' h'' : Known} (ample : Bool)
+    (s : SoFar by Paid Stood told a b state tally h h') → PaysMore ample s.failures Paid'
+    → AnsweredLine (spared ample by) Stands told b c h' h'' s.now tally' → SoFar by Paid' Stands told a c state tally' h h''
+so_far_more {by} {told} {a} {b} {c} {state} {h} {h'} {h''} ample s pays t =
     let w = t.whole.done in
+    let line = without_cr t.raw in
     record {
       raws = s.raws ++ t.raw ∷ [];
       handed = handed_then told a b c s.raws (t.raw ∷ []) s.handed t.handed;
       failures = s.failures ++ w.failed ∷ [];
+      paid = pays w.failed (none_spared ample w.failed (by.MayFail s.now.state line) w.goes_on.allowed);
       now = w.next;
-      done = rw (map-append without_cr s.raws (t.raw ∷ [])) (done_more s.done w);
+      done = rw (map-append without_cr s.raws (t.raw ∷ [])) (done_more s.done ample w);
       stands = w.stands;
       appended = rw w.text (Appends-trans h h' h'' s.now.text t.whole.reply s.appended t.whole.appended);
       counts = t.whole.counts;

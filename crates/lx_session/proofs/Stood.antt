@@ -5,26 +5,9 @@ use Rattle.lx_session.proofs.Imports.{HasStood, IsAmple, MayFailUnless, MayTake,
 pub stood_since : (a b c : ℕ) → a ≤ b → HasStood a c → HasStood b c
 stood_since a b c later stood = omega (arith, later, stood)
 
-pub stood_until : (a b c : ℕ) → b ≤ c → HasStood a c → HasStood a b
-stood_until a b c later stood = omega (arith, later, stood)
-
 -- the same of memory that was ample, where all were admitted only if all were so far
 pub ample_since : {all : Bool} {a b c : ℕ} → a ≤ b → IsAmple all a c → IsAmple all b c
 ample_since {a} {b} {c} later ample = record { admitted = ample.admitted; stood = stood_since a b c later ample.stood }
-
-pub ample_until : (all all' : Bool) (a b c : ℕ) → (all' ≡ true → all ≡ true) → b ≤ c → IsAmple all' a c → IsAmple all a b
-ample_until all all' a b c so_far later ample = record { admitted = so_far ample.admitted; stood = stood_until a b c later ample.stood }
-
--- and of how an answer may be taken
-pub take_since : {all ample now : Bool} {a b c : ℕ} → a ≤ b → MayTake all ample now a c → MayTake all ample now b c
-take_since {now} {a} {b} {c} later may = record { admitted = may.admitted; memory = λ is. ample_since later (may.memory is) }
-
-pub take_until : {all ample before now : Bool} {a b c : ℕ} → (now ≡ true → before ≡ true) → b ≤ c → MayTake all ample now a c
-    → MayTake all ample before a b
-take_until {before} {now} {a} {b} {c} so_far later may = record {
-  admitted = λ is. so_far (may.admitted is);
-  memory = λ is. ample_until before now a b c so_far later (may.memory is);
-}
 
 -- it may always be taken as one in which neither was so
 pub take_none : {now : Bool} {a c : ℕ} → MayTake false false now a c

@@ -12,7 +12,7 @@ pub use Rattle.lx_spec.specs.DeskSession.{DeskState, begun, desk_answering}
 pub use Rattle.lx_spec.specs.ValidEdit.{ValidCommand, ValidLine}
 pub use Rattle.lx_lex.specs.Unread.{CanAdvance, SameSource, bytes_taken, source_left, unread, held, has_feed, lines_handed}
 pub use Rattle.lx_session.specs.LineReply.{TallyHasRoom, HasOneMore, counts_in, reply_to, reply_for, counts_after, counted, IsUpTo}
-pub use Rattle.lx_session.specs.Spared.{HasStood, spared, MayTake, IsAmple}
+pub use Rattle.lx_session.specs.Spared.{HasStood, spared, MayTake, IsAmple, ByRefusals, IsMost}
 pub use Rattle.lx_session.specs.LineState.{next_of, frame_of, meaning_of}
 pub use Rattle.lx_session.specs.Attempts.{Attempted, ListenedAttempt, heard_of}
 pub use Rattle.lx_session.specs.LineAnswer.{SparedAnswer, FromDesk, LineAnswer}

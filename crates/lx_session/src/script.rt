@@ -1,8 +1,8 @@
 //! A session: script lines are read one after another, and each is answered before the next is awaited.
 
-ghost use Rattle.std.specs.Prelude.{◌≡◌, ◌≤◌, Bool, true, IfSome};
+ghost use Rattle.std.specs.Prelude.{◌≡◌, ◌≤◌, ℕ, Bool, true, Option, None, IfSome};
 ghost use Rattle.lx_session.specs.Imports.{CanAdvance, SameSource, bytes_taken, source_left, unread, Desk, begun, desk_answering};
-ghost use Rattle.lx_session.specs.Imports.{StandsFor, ScriptAnswered, HasDone, HasStood, IsAmple, MayTake, spared, HasSessionCause};
+ghost use Rattle.lx_session.specs.Imports.{StandsFor, ScriptAnswered, HasDone, ByRefusals, IsMost, HasSessionCause};
 ghost use Rattle.lx_session.specs.Imports.{KeepsLimit, HandsOnReplies};
 ghost use Rattle.lx_base.specs.declared.TheConstants.{INPUT_BYTES};
 
@@ -35,7 +35,7 @@ pub fn session<S: Source, K: Sink>(
     ensures same_source { SameSource lines.old lines.new }
     ensures outcome { (d : Desk) → StandsFor d console.old
         → IfSome (unread S.Source lines.old)
-        (λ bytes. ScriptAnswered (desk_answering true) (HasDone (λ commands. Unit {0}) d console.new) (begun d) (bytes_taken lines.old) bytes
+        (λ bytes. ScriptAnswered (desk_answering true) None (HasDone (λ commands. Unit {0}) d console.new) (begun d) (bytes_taken lines.old) bytes
         (unread S.Source lines.new) (source_left S.Source lines.new) (K.holds sink.old) (K.holds sink.new) result) }
     ensures limit { IfSome (unread S.Source lines.old) (λ bytes. KeepsLimit (bytes_taken lines.old) bytes result) }
     ensures cause { HasSessionCause S.Source K.Sink lines.old lines.new sink.old sink.new result }
@@ -45,7 +45,7 @@ pub fn session<S: Source, K: Sink>(
     session_in(&mut heap, console, lines, sink)
 }
 
-/// As `session`, by a heap: where it refused nothing in this call, no command failed as out of memory.
+/// As `session`, by a heap: at most as many lines as it refused calls in this call failed as out of memory, and none where it refused none.
 pub fn session_in<H: Heap, S: Source, K: Sink>(
     heap: &mut H,
     console: &mut Console,
@@ -55,10 +55,10 @@ pub fn session_in<H: Heap, S: Source, K: Sink>(
     requires going { CanAdvance lines.old }
     requires within { bytes_taken lines.old ≤ INPUT_BYTES }
     ensures same_source { SameSource lines.old lines.new }
-    ensures outcome { (ample : Bool) → (ample ≡ true → HasStood (H.refusals heap.old) (H.refusals heap.new)) → (d : Desk) → StandsFor d console.old
+    ensures outcome { ByRefusals (H.refusals heap.old) (H.refusals heap.new) (λ most. (d : Desk) → StandsFor d console.old
         → IfSome (unread S.Source lines.old)
-        (λ bytes. ScriptAnswered (spared ample (desk_answering true)) (HasDone (λ commands. Unit {0}) d console.new) (begun d)
-        (bytes_taken lines.old) bytes (unread S.Source lines.new) (source_left S.Source lines.new) (K.holds sink.old) (K.holds sink.new) result) }
+        (λ bytes. ScriptAnswered (desk_answering true) most (HasDone (λ commands. Unit {0}) d console.new) (begun d)
+        (bytes_taken lines.old) bytes (unread S.Source lines.new) (source_left S.Source lines.new) (K.holds sink.old) (K.holds sink.new) result)) }
     ensures limit { IfSome (unread S.Source lines.old) (λ bytes. KeepsLimit (bytes_taken lines.old) bytes result) }
     ensures cause { HasSessionCause S.Source K.Sink lines.old lines.new sink.old sink.new result }
     ensures handed_on { HandsOnReplies result (K.back sink.new) }
@@ -68,7 +68,7 @@ pub fn session_in<H: Heap, S: Source, K: Sink>(
 }
 
 /// As `session_in`, with a listener: a command that it doesn't admit isn't accepted, and it hears of each command that is, in
-/// order. Where the heap refused nothing in this call and every command was admitted, none failed as out of memory.
+/// order. Where every command was admitted, at most as many lines as the heap refused calls in this call failed as out of memory.
 pub fn session_with_in<L: Listener, H: Heap, S: Source, K: Sink>(
     listener: &mut L,
     heap: &mut H,
@@ -81,10 +81,10 @@ pub fn session_with_in<L: Listener, H: Heap, S: Source, K: Sink>(
     requires keeps { L.keeps listener.old console.old }
     ensures same_source { SameSource lines.old lines.new }
     ensures keeps { L.keeps listener.new console.new }
-    ensures outcome { (ample : Bool) → (ample ≡ true → IsAmple (L.admitted_all listener.new) (H.refusals heap.old) (H.refusals heap.new))
+    ensures outcome { (most : Option ℕ) → IfSome most (IsMost (L.admitted_all listener.new) (H.refusals heap.old) (H.refusals heap.new))
         → (d : Desk) → StandsFor d console.old
         → IfSome (unread S.Source lines.old)
-        (λ bytes. ScriptAnswered (spared ample (desk_answering (L.admitted_all listener.new)))
+        (λ bytes. ScriptAnswered (desk_answering (L.admitted_all listener.new)) most
         (HasDone (L.heard listener.old listener.new) d console.new) (begun d) (bytes_taken lines.old) bytes
         (unread S.Source lines.new) (source_left S.Source lines.new) (K.holds sink.old) (K.holds sink.new) result) }
     ensures limit { IfSome (unread S.Source lines.old) (λ bytes. KeepsLimit (bytes_taken lines.old) bytes result) }
@@ -105,7 +105,7 @@ pub fn session_with_in<L: Listener, H: Heap, S: Source, K: Sink>(
 /// fails, all replies before it are handed on. However it ends, what answers stands for the state after the lines
 /// that were done.
 ///
-/// Where the heap refused nothing in this call, no attempt failed.
+/// At most as many lines as the heap refused calls in this call failed.
 pub fn answer_lines_in<A: Answers, H: Heap, S: Source, K: Sink>(
     answerer: &mut A,
     heap: &mut H,
@@ -115,11 +115,10 @@ pub fn answer_lines_in<A: Answers, H: Heap, S: Source, K: Sink>(
     requires going { CanAdvance lines.old }
     requires within { bytes_taken lines.old ≤ INPUT_BYTES }
     ensures same_source { SameSource lines.old lines.new }
-    ensures outcome { (ample : Bool) → (ample ≡ true → HasStood (H.refusals heap.old) (H.refusals heap.new))
-        → (state : A.by.State) → A.stands state answerer.old
+    ensures outcome { ByRefusals (H.refusals heap.old) (H.refusals heap.new) (λ most. (state : A.by.State) → A.stands state answerer.old
         → IfSome (unread S.Source lines.old)
-        (λ bytes. ScriptAnswered (spared ample A.by) (λ s. A.stands s answerer.new) state (bytes_taken lines.old) bytes
-        (unread S.Source lines.new) (source_left S.Source lines.new) (K.holds sink.old) (K.holds sink.new) result) }
+        (λ bytes. ScriptAnswered A.by most (λ s. A.stands s answerer.new) state (bytes_taken lines.old) bytes
+        (unread S.Source lines.new) (source_left S.Source lines.new) (K.holds sink.old) (K.holds sink.new) result)) }
     ensures limit { IfSome (unread S.Source lines.old) (λ bytes. KeepsLimit (bytes_taken lines.old) bytes result) }
     ensures cause { HasSessionCause S.Source K.Sink lines.old lines.new sink.old sink.new result }
     ensures handed_on { HandsOnReplies result (K.back sink.new) }
@@ -141,10 +140,11 @@ fn answer_each<D, A: AnswersBeside<D>, H: Heap, S: Source, K: Sink>(
     requires keeps { A.keeps answerer.old lent.old }
     ensures same_source { SameSource lines.old lines.new }
     ensures keeps { A.keeps answerer.new lent.new }
-    ensures outcome { (all ample : Bool) → MayTake all ample (A.admitted_all answerer.new) (H.refusals heap.old) (H.refusals heap.new)
+    ensures outcome { (all : Bool) (most : Option ℕ) → (all ≡ true → A.admitted_all answerer.new ≡ true)
+        → IfSome most (IsMost (A.admitted_all answerer.new) (H.refusals heap.old) (H.refusals heap.new))
         → (since : A.Since) (state : (A.by all).State) → A.stands since all state answerer.old lent.old
         → IfSome (unread S.Source lines.old)
-        (λ bytes. ScriptAnswered (spared ample (A.by all)) (λ s. A.stands since all s answerer.new lent.new) state (bytes_taken lines.old) bytes
+        (λ bytes. ScriptAnswered (A.by all) most (λ s. A.stands since all s answerer.new lent.new) state (bytes_taken lines.old) bytes
         (unread S.Source lines.new) (source_left S.Source lines.new) (K.holds sink.old) (K.holds sink.new) result) }
     ensures limit { IfSome (unread S.Source lines.old) (λ bytes. KeepsLimit (bytes_taken lines.old) bytes result) }
     ensures cause { HasSessionCause S.Source K.Sink lines.old lines.new sink.old sink.new result }

@@ -15,13 +15,13 @@ pub use Rattle.lx_io.specs.Causes.{HasCause, one_more, Rose}
 pub use Rattle.lx_io.specs.Puts.{AppendsFront, HasSinkCause, Puts}
 pub use Rattle.lx_io.specs.declared.sink.SinkFault.{SinkFault}
 pub use Rattle.lx_io.specs.Told.{ToldBySink}
-pub use Rattle.lx_session.specs.Spared.{HasStood}
+pub use Rattle.lx_session.specs.Spared.{HasStood, IsMost, RoseAtMost}
 pub use Rattle.lx_spec.specs.Desk.{Desk, opened, replay}
 pub use Rattle.lx_spec.specs.Kept.{Kept}
 pub use Rattle.lx_spec.specs.Show.{Show}
 pub use Rattle.lx_spec.specs.Versions.{Falling, Older, outlet_text, version_text, versions_text}
 pub use Rattle.lx_spec.specs.declared.Command.{Command}
-pub use Rattle.lx_workers.specs.Engines.{accepted_of, engine_answering, HasAccepted, HasRun, HasSentOn, leaves_room, SendsAll}
+pub use Rattle.lx_workers.specs.Engines.{accepted_of, engine_answering, HasAccepted, HasRun, HasSentOn, leaves_room, most_of, SendsAll}
 pub use Rattle.lx_workers.specs.Lines.{HasFault, HasWritten, HasWrittenPart, newest_count, stamped_line}
 pub use Rattle.lx_workers.specs.Places.{IsFull, IsGiven, IsTaken, OutletIsBack}
 pub use Rattle.lx_workers.specs.Works.{Delivered, HasAll, HasLooked, HasPutNewest, HasServed, HasStepped, HasTakenTimes, RoseOrSame}

@@ -1,5 +1,5 @@
 -- The engine's commands: those that are published, and then those that aren't yet.
-use Rattle.std.specs.Prelude.{◌≡◌, ◌≤◌, ◌+◌, ◌-◌, ◌^◌, ℕ, List, [], ◌∷◌, ◌++◌, length, Bool, true, ◌&&◌, ltb, Option, Result, IfSome}
+use Rattle.std.specs.Prelude.{◌≡◌, ◌≤◌, ◌+◌, ◌-◌, ◌^◌, ℕ, List, [], ◌∷◌, ◌++◌, length, Bool, ltb, cond, Option, None, Result, IfSome}
 use Rattle.std.specs.Prelude.{IsSomeAnd}
 use mathlib.Core.Path.{sym, ap, ◌∙◌}
 use mathlib.Core.List.{append-nil, append_assoc}
@@ -18,7 +18,7 @@ use Rattle.lx_session.specs.declared.tally.Tally.{Tally}
 use Rattle.lx_session.specs.Listening.{HasDone}
 use Rattle.lx_session.specs.ScriptAnswer.{ScriptAnswered}
 use Rattle.lx_session.specs.SessionOutcome.{HasSessionCause, KeepsLimit}
-use Rattle.lx_session.specs.Spared.{HasStood, spared}
+use Rattle.lx_session.specs.Spared.{ByRefusals, HasStood}
 use Rattle.lx_session.specs.Waits.{HandsOnReplies}
 use Rattle.lx_gate.specs.Desks.{IsInStep}
 use Rattle.lx_spec.specs.declared.Command.{Command}
@@ -36,10 +36,13 @@ HasAccepted gate unsent gate' unsent' commands = accepted_of gate' unsent' ≡ a
 abbrev pub leaves_room : List Command → Bool
 leaves_room commands = ltb (length commands) (2 ^ 62)
 
--- How an engine answers that has accepted these commands: it admits every command, unless there were too many to count, and where memory was
--- ample too no attempt fails.
-abbrev pub engine_answering : (ample : Bool) → List Command → Answering (List ℕ)
-engine_answering ample commands = spared (ample && leaves_room commands) (desk_answering (leaves_room commands))
+-- How an engine answers that has accepted these commands: it admits every command, unless there were too many to count.
+abbrev pub engine_answering : List Command → Answering (List ℕ)
+engine_answering commands = desk_answering (leaves_room commands)
+
+-- so many lines failed at most, where one is known; but none is known where there were too many commands to count
+abbrev pub most_of : Option ℕ → List Command → Option ℕ
+most_of most commands = cond (leaves_room commands) most None
 
 -- By the count of a writer's heap: where it refused nothing, nothing waits to be published.
 pub record SendsAll (refusals refusals' : ℕ) (unsent' : List Command) : Type 0 where
@@ -95,8 +98,8 @@ sent_both refusals unsent refusals' unsent' refusals'' unsent'' before after one
 }
 
 -- A session was played. The console stands for the desk after all commands, and those that its lines came to are published or unsent. It
--- answered as a session in which every command is admitted, unless there were too many to count; and where the heap refused nothing, no attempt
--- failed. What is unsent is so because the writer's heap refused some.
+-- answered as a session in which every command is admitted, unless there were too many to count; and then no more lines failed than the heap
+-- refused calls. What is unsent is so because the writer's heap refused some.
 pub record HasRun {S K : Type 0} (told_in : ToldBySource S) (told_out : ToldBySink K)
     (show : Show) (refusals writers : ℕ) (gate : Published) (unsent : List Command) (console : Kept) (lines : Lines S) (output : K)
     (refusals' writers' : ℕ) (gate' : Published) (unsent' : List Command) (console' : Kept) (lines' : Lines S) (output' : K)
@@ -105,10 +108,10 @@ pub record HasRun {S K : Type 0} (told_in : ToldBySource S) (told_out : ToldBySi
   pub same_source : SameSource lines lines'
   pub later : refusals ≤ refusals'
   pub sends : SendsAll writers writers' unsent'
-  pub outcome : (ample : Bool) → (ample ≡ true → HasStood refusals refusals') → (d : Desk) → StandsFor d console
-      → IfSome (unread told_in lines) (λ bytes. ScriptAnswered (engine_answering ample (accepted_of gate' unsent'))
-      (HasDone (HasAccepted gate unsent gate' unsent') d console') (begun d) (bytes_taken lines) bytes (unread told_in lines')
-      (source_left told_in lines') (told_out.holds output) (told_out.holds output') result)
+  pub outcome : ByRefusals refusals refusals' (λ most. (d : Desk) → StandsFor d console
+      → IfSome (unread told_in lines) (λ bytes. ScriptAnswered (engine_answering (accepted_of gate' unsent'))
+      (most_of most (accepted_of gate' unsent')) (HasDone (HasAccepted gate unsent gate' unsent') d console') (begun d) (bytes_taken lines) bytes
+      (unread told_in lines') (source_left told_in lines') (told_out.holds output) (told_out.holds output') result))
   pub limit : IfSome (unread told_in lines) (λ bytes. KeepsLimit (bytes_taken lines) bytes result)
   pub cause : HasSessionCause told_in told_out lines lines' output output' result
   pub handed_on : HandsOnReplies result (told_out.back output')

@@ -7,7 +7,7 @@ pub use Rattle.lx_lex.specs.Unread.{CanAdvance, SameSource, bytes_taken, unread}
 pub use Rattle.lx_spec.specs.Desk.{opened}
 pub use Rattle.lx_console.specs.ConsoleMeaning.{StandsFor}
 pub use Rattle.lx_session.specs.SessionOutcome.{HasSessionCause, KeepsLimit}
-pub use Rattle.lx_session.specs.Spared.{HasStood}
+pub use Rattle.lx_session.specs.Spared.{ByRefusals, HasStood}
 pub use Rattle.lx_session.specs.Waits.{HandsOnReplies}
 pub use Rattle.lx_gate.specs.Gates.{Published}
 pub use Rattle.lx_base.specs.Places.{EachAt}

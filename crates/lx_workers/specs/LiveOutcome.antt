@@ -1,5 +1,5 @@
 -- What a live run comes to.
-use Rattle.std.specs.Prelude.{◌≡◌, ℕ, ◌<◌, Bool, List, ◌++◌, length, Some, IfSome, slice_get, Result}
+use Rattle.std.specs.Prelude.{◌≡◌, ℕ, ◌<◌, List, ◌++◌, length, Some, IfSome, slice_get, Result}
 use Rattle.std.specs.declared.option.Option.{Option}
 use Rattle.lx_io.specs.declared.sink.SinkFault.{SinkFault}
 use Rattle.lx_io.specs.Told.{ToldBySink, ToldBySource}
@@ -15,7 +15,7 @@ use Rattle.lx_session.specs.declared.fault.SessionFault.{SessionFault}
 use Rattle.lx_session.specs.declared.tally.Tally.{Tally}
 use Rattle.lx_session.specs.Listening.{HasDone}
 use Rattle.lx_session.specs.ScriptAnswer.{ScriptAnswered}
-use Rattle.lx_workers.specs.Engines.{engine_answering}
+use Rattle.lx_workers.specs.Engines.{engine_answering, most_of}
 use Rattle.lx_workers.specs.Places.{OutletIsBack}
 
 -- Each place has its sink back, with what it was to get of these published commands; past the places no fault is told.
@@ -26,11 +26,10 @@ pub record AreDelivered {K : Type 0} (told : ToldBySink K) (show : Show)
       → OutletIsBack told show outlets' results published place start
   pub others : (place : ℕ) (fault : SinkFault) → slice_get results place ≡ Some (Some fault) → place < length outlets
 
--- A script was answered as in a session that admits every command, unless there were too many to count; where memory was ample too no attempt
--- failed. The commands that its lines came to
--- are published up to the last n, the console stands for the desk after them all, and each outlet has what it was to get of those that are
--- published.
-pub record HasPlayedScript {S O K : Type 0} (ample : Bool) (told_in : ToldBySource S) (told_out : ToldBySink O) (told : ToldBySink K) (show : Show)
+-- A script was answered as in a session that admits every command, unless there were too many to count, and no more of its lines failed than
+-- so many. The commands that its lines came to are published up to the last n, the console stands for the desk after them all, and each
+-- outlet has what it was to get of those that are published.
+pub record HasPlayedScript {S O K : Type 0} (most : Option ℕ) (told_in : ToldBySource S) (told_out : ToldBySink O) (told : ToldBySink K) (show : Show)
     (lines lines' : Lines S) (output output' : O) (outlets outlets' : List (Option K)) (console : Kept)
     (session : Result Tally SessionFault) (results : List (Option SinkFault)) (unsent : ℕ) : Type 0 where
   pub published : List Command
@@ -38,7 +37,7 @@ pub record HasPlayedScript {S O K : Type 0} (ample : Bool) (told_in : ToldBySour
   pub unsent_is : unsent ≡ length held_back
   pub stands : StandsFor (replay show (published ++ held_back)) console
   pub session_is : IfSome (unread told_in lines) (λ bytes.
-      ScriptAnswered (engine_answering ample (published ++ held_back))
+      ScriptAnswered (engine_answering (published ++ held_back)) (most_of most (published ++ held_back))
       (HasDone (λ commands. commands ≡ published ++ held_back) (opened show) console)
       (begun (opened show)) (bytes_taken lines) bytes (unread told_in lines') (source_left told_in lines') (told_out.holds output)
       (told_out.holds output') session)

@@ -1,8 +1,8 @@
 //! A live run: the engine, and a worker for each outlet beside it.
 ghost use Rattle.std.specs.Prelude.{◌≡◌, ◌+◌, ◌-◌, ◌<◌, ◌≤◌, ◌⊎◌, [], length, IsSome, IsSomeAnd, IfOk, IfSome, OnErr, vec_len};
-ghost use Rattle.std.specs.Prelude.{vec_capacity, ℕ, Bool, true, false, Some, None, slice_get, slice_set, List};
+ghost use Rattle.std.specs.Prelude.{vec_capacity, ℕ, Some, None, slice_get, slice_set, List};
 ghost use Rattle.lx_workers.specs.Imports.{AllZip, CanAdvance, SameSource, bytes_taken, unread, opened, StandsFor, HasSessionCause};
-ghost use Rattle.lx_workers.specs.Imports.{KeepsLimit, HasStood, HandsOnReplies, Published, IsInStep, EachAt, IsNewTap, Rose, HasRunFrom};
+ghost use Rattle.lx_workers.specs.Imports.{KeepsLimit, ByRefusals, HasStood, HandsOnReplies, Published, IsInStep, EachAt, IsNewTap, Rose, HasRunFrom};
 ghost use Rattle.lx_workers.specs.Imports.{HasServed, HasEnded, IsFull, IsTaken, IsGiven, HasPlayedScript};
 ghost use Rattle.lx_base.specs.declared.TheConstants.{INPUT_BYTES};
 ghost use Rattle.lx_workers.specs.declared.playing.TheConstants.{OUTLETS};
@@ -69,7 +69,7 @@ pub fn play<
     ensures err { OnErr result ((console.new ≡ console.old)
         × ((lines.new ≡ lines.old) × ((output.new ≡ output.old) × (outlets.new ≡ outlets.old)))) }
     ensures same_source { SameSource lines.old lines.new }
-    ensures played { IfOk result (λ p. HasPlayedScript false S.Source O.Sink K.Sink console.old.show lines.old lines.new output.old
+    ensures played { IfOk result (λ p. HasPlayedScript None S.Source O.Sink K.Sink console.old.show lines.old lines.new output.old
         output.new outlets.old outlets.new console.new p.session p.outlets p.unsent) }
     ensures limit { IfOk result (λ p. IfSome (unread S.Source lines.old) (λ bytes. KeepsLimit (bytes_taken lines.old) bytes p.session)) }
     ensures cause { IfOk result (λ p. HasSessionCause S.Source O.Sink lines.old lines.new output.old output.new p.session) }
@@ -90,8 +90,8 @@ pub fn play<
 }
 
 /// As `play`, by a heap for the session and what the run keeps, and one for the gate's writer. `AllocError` comes only where one of the two
-/// refused. Where the heap refused nothing in this call, no command failed as out of memory as long as each was admitted; and where the
-/// writer's heap refused nothing, all accepted commands were published.
+/// refused. As long as each command was admitted, at most as many lines as the heap refused calls in this call failed as out of memory; and
+/// where the writer's heap refused nothing, all accepted commands were published.
 pub fn play_in<
     R: Threads + Wait + Sync,
     H: Heap + Send,
@@ -119,9 +119,9 @@ pub fn play_in<
         × ((lines.new ≡ lines.old) × ((output.new ≡ output.old) × (outlets.new ≡ outlets.old)))) }
     ensures memory { OnErr result (Rose (H.refusals heap.old) (H.refusals heap.new) ⊎ Rose writers.old writers.new) }
     ensures same_source { SameSource lines.old lines.new }
-    ensures played { (ample : Bool) → (ample ≡ true → HasStood (H.refusals heap.old) (H.refusals heap.new))
-        → IfOk result (λ p. HasPlayedScript ample S.Source O.Sink K.Sink console.old.show lines.old lines.new output.old
-        output.new outlets.old outlets.new console.new p.session p.outlets p.unsent) }
+    ensures played { ByRefusals (H.refusals heap.old) (H.refusals heap.new) (λ most.
+        IfOk result (λ p. HasPlayedScript most S.Source O.Sink K.Sink console.old.show lines.old lines.new output.old
+        output.new outlets.old outlets.new console.new p.session p.outlets p.unsent)) }
     ensures sent { HasStood writers.old writers.new → IfOk result (λ p. p.unsent ≡ 0) }
     ensures limit { IfOk result (λ p. IfSome (unread S.Source lines.old) (λ bytes. KeepsLimit (bytes_taken lines.old) bytes p.session)) }
     ensures cause { IfOk result (λ p. HasSessionCause S.Source O.Sink lines.old lines.new output.old output.new p.session) }
@@ -174,9 +174,9 @@ fn play_over<
         × ((lines.new ≡ lines.old) × ((output.new ≡ output.old) × (outlets.new ≡ outlets.old)))) }
     ensures memory { OnErr result (Rose (H.refusals heap.old) (H.refusals heap.new) ⊎ Rose writers.old writers.new) }
     ensures same_source { SameSource lines.old lines.new }
-    ensures played { (ample : Bool) → (ample ≡ true → HasStood (H.refusals heap.old) (H.refusals heap.new))
-        → IfOk result (λ p. HasPlayedScript ample S.Source O.Sink K.Sink G.show lines.old lines.new output.old
-        output.new outlets.old outlets.new console.new p.session p.outlets p.unsent) }
+    ensures played { ByRefusals (H.refusals heap.old) (H.refusals heap.new) (λ most.
+        IfOk result (λ p. HasPlayedScript most S.Source O.Sink K.Sink G.show lines.old lines.new output.old
+        output.new outlets.old outlets.new console.new p.session p.outlets p.unsent)) }
     ensures sent { HasStood writers.old writers.new → IfOk result (λ p. p.unsent ≡ 0) }
     ensures limit { IfOk result (λ p. IfSome (unread S.Source lines.old) (λ bytes. KeepsLimit (bytes_taken lines.old) bytes p.session)) }
     ensures cause { IfOk result (λ p. HasSessionCause S.Source O.Sink lines.old lines.new output.old output.new p.session) }

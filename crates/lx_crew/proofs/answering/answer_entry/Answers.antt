@@ -4,8 +4,8 @@ use Rattle.lx_crew.proofs.answering.answer_entry.Goals as goal
 use Rattle.lx_crew.proofs.answering.answer_entry.Goals.{in-Line, in-LongLine}
 
 pub returns-then-is_some-clause-answered : goal.returns-then-is_some-clause-answered
-returns-then-is_some-clause-answered g c = λ ample stood d popped start so_far.
-    thrown_away ample g.K.Sink d popped start _ _ _ c.args.entry.now c.args.output.now c.if-is_some.ensures so_far
+returns-then-is_some-clause-answered g c = λ before d popped start so_far.
+    thrown_away before _ g.K.Sink d popped start _ _ _ c.args.entry.now c.args.output.now c.if-is_some.ensures so_far
 
 pub returns-clause-answered : goal.returns-clause-answered
 returns-clause-answered g c =
@@ -14,7 +14,7 @@ returns-clause-answered g c =
       | in-Line w ↦ said_text c.args.entry.now w.in-Line.line _ w.in-Line.is (ap option_copied w.line-is ∙ ap Some w.bytes.ensures.text)
       | in-LongLine w ↦ said_long c.args.entry.now _ w.in-LongLine.is (ap option_copied w.line-is)
     ] in
-    λ ample stood d popped start so_far.
-    answered_entry ample (g.H.Heap.refusals c.args.heap.now) (g.H.Heap.refusals c.answer_line.new.heap) g.K.Sink c.args.sink.now
+    λ before d popped start so_far.
+    answered_entry before (g.H.Heap.refusals c.args.heap.now) (g.H.Heap.refusals c.answer_line.new.heap) g.K.Sink c.args.sink.now
     c.answer_line.new.sink d popped start _ _ c.args.tally.now c.answer_line.new.tally said
-    (none_is c.args.output.now c.if-is_some.ensures) c.err.ensures.value stood c.answer_line.ensures.answered so_far
+    (none_is c.args.output.now c.if-is_some.ensures) c.err.ensures.value c.answer_line.ensures.later c.answer_line.ensures.answered so_far

@@ -1,5 +1,5 @@
-use Rattle.lx_crew.proofs.Imports.{rules, [], ◌∷◌, ◌++◌, slice_get, ap, sym, ◌∙◌, arith, Counts, stood_since, stood_until}
-use Rattle.lx_crew.proofs.AnswerProgress.{answered_none}
+use Rattle.lx_crew.proofs.Imports.{rules, [], ◌∷◌, ◌++◌, slice_get, ap, sym, ◌∙◌, arith, Counts}
+use Rattle.lx_crew.proofs.AnswerProgress.{answered_later, answered_none}
 use Rattle.lx_crew.proofs.EngineSteps.{ended_on, cause_none, cause_then, answered_same}
 use Rattle.lx_crew.proofs.engine.serve.Goals as goal
 
@@ -13,7 +13,7 @@ loop-init g c =
       view = c.requires.view;
       ended = search rules;
       later = omega arith;
-      answered = λ ample stood d stands. answered_none ample g.K.Sink d c.args.sink.now _ c.args.tally.now stands none;
+      answered = λ d stands. answered_none (g.H.Heap.refusals c.args.heap.now) g.K.Sink d c.args.sink.now _ c.args.tally.now stands none;
       cause = cause_none _ _ _;
       ok = omega (arith, ap (λ (n : Counts). n.ok) none);
       refused = omega (arith, ap (λ (n : Counts). n.refused) none);
@@ -27,7 +27,7 @@ returns-then-all_of-clause-served g c =
       view = i.view;
       ended = λ k below. i.ended k (c.all_of.ensures c.if-all_of.true k below);
       later = i.later;
-      answered = λ ample stood d stands. c.flush.ensures.answered ample d i.popped _ _ _ (i.answered ample stood d stands);
+      answered = λ d stands. c.flush.ensures.answered _ _ d i.popped _ _ _ (i.answered d stands);
       cause = cause_then _ _ _ _ _ _ _ i.cause c.flush.ensures.cause;
       handed_on = c.flush.ensures.handed_on;
     }
@@ -43,9 +43,9 @@ loop-preserved-then-not-take_one g c =
       view = n.0 ∙ i.view;
       ended = λ k is. i.ended k (ap (λ marks. slice_get marks k) (sym n.1.1.1.1.1) ∙ is);
       later = omega (arith, i.later, c.take_one.ensures.later);
-      answered = λ ample stood d stands. c.flush-then-not-take_one.ensures.answered ample d i.popped _ _ _
-          (answered_same g.K.Sink _ _ ample d i.popped _ _ _ _ _ _ _ n.1.0 n.1.1.0 n.1.1.1.0 n.1.1.1.1.0
-          (i.answered ample (λ is. stood_until _ _ _ c.take_one.ensures.later (stood is)) d stands));
+      answered = λ d stands. c.flush-then-not-take_one.ensures.answered _ _ d i.popped _ _ _
+          (answered_same g.K.Sink _ _ _ _ d i.popped _ _ _ _ _ _ _ n.1.0 n.1.1.0 n.1.1.1.0 n.1.1.1.1.0
+          (answered_later _ _ _ g.K.Sink d i.popped _ _ _ _ _ c.take_one.ensures.later (i.answered d stands)));
       cause = cause_then _ _ _ _ _ _ _ (cause_then _ _ _ _ _ _ _ i.cause c.take_one.ensures.cause) c.flush-then-not-take_one.ensures.cause;
       ok = search rules;
       refused = search rules;
@@ -63,8 +63,7 @@ loop-preserved g c =
       view = rw i.view at t.takes;
       ended = ended_on _ _ _ _ t.marked i.ended;
       later = omega (arith, i.later, c.take_one.ensures.later);
-      answered = λ ample stood d stands. t.answered ample (λ is. stood_since _ _ _ i.later (stood is)) d i.popped _
-          (i.answered ample (λ is. stood_until _ _ _ c.take_one.ensures.later (stood is)) d stands);
+      answered = λ d stands. t.answered _ d i.popped _ (i.answered d stands);
       cause = cause_then _ _ _ _ _ _ _ i.cause c.take_one.ensures.cause;
       ok = search rules;
       refused = search rules;

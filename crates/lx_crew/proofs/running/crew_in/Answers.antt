@@ -1,4 +1,4 @@
-use Rattle.lx_crew.proofs.Imports.{◌≡◌, [], length, slice_get, Some, ap, sym, subst, ◌∙◌, arith, stood_since, AllZip-long, View, EachAt, Learned, engine_view}
+use Rattle.lx_crew.proofs.Imports.{◌≡◌, [], length, slice_get, Some, ap, sym, subst, ◌∙◌, arith, known_since, AllZip-long, View, EachAt, Learned, engine_view}
 use Rattle.lx_crew.proofs.Crews.{crewed}
 use Rattle.lx_crew.proofs.Rules.{totals}
 use Rattle.lx_crew.proofs.Works.{ready_all, works_back, after_release, carries, retired, retired_works}
@@ -55,7 +55,7 @@ returns-clause-later g c =
     omega (arith, room, later)
 
 pub returns-clause-crewed : goal.returns-clause-crewed
-returns-clause-crewed g c = λ ample stood d stands.
+returns-clause-crewed g c = λ most known d stands.
     let zip = rw c.as_mut_slice.ensures.value at c.perform-output.ensures.ran in
     let ran = retired _ _ (carries _) _ _ _ zip c.hire.ensures.works in
     let served = c.perform-output.ensures.served in
@@ -64,11 +64,11 @@ returns-clause-crewed g c = λ ample stood d stands.
     let size : length c.as_mut_slice.result.now ≡ length c.hire.new.works.items = ap length c.as_mut_slice.ensures.value in
     let knows = after_release _ _ (length c.as_mut_slice.result.now) served.popped _ works same served.view c.release-faults.ensures.kept in
     let learned = subst (λ (v : View). Learned v c.learn_as.ensures.rule.0) knows c.learn_as.ensures.rule.1 in
-    crewed ample _ _ _ d _ _ _ _ _ _ _ _ works served.popped c.learn_as.ensures.rule.0 (length c.as_mut_slice.result.now) ran
+    crewed most _ _ _ _ _ d _ _ _ _ _ _ _ _ works served.popped c.learn_as.ensures.rule.0 (length c.as_mut_slice.result.now) ran
     (AllZip-long _ _ _ zip ∙ sym size) (size ∙ c.hire.ensures.count) learned served.ended
     (c.release-faults.ensures.same ∙ c.hire.ensures.same)
     (subst (λ ws. EachAt (λ k work. slice_get c.release-faults.new.operators k ≡ Some (Some work.source)) ws) same
     c.release-faults.ensures.back)
     (subst (λ ws. EachAt (λ k work. slice_get c.release-faults.result k ≡ Some work.fault) ws) same c.release-faults.ensures.faults)
     (λ place fault at. let t = c.release-faults.ensures.others place fault at in omega (arith, t, c.hire.ensures.same))
-    (served.answered ample (λ is. stood_since _ _ _ c.room.ensures.cause.later (stood is)) d stands)
+    (known_since most _ _ _ c.room.ensures.cause.later known) (served.answered d stands)

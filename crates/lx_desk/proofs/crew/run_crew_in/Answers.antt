@@ -1,4 +1,4 @@
-use Rattle.lx_desk.proofs.Imports.{EndsJob, EndsScript, inl, inr, false, true, arith, stood_since, refl, sym, ap, ◌∙◌, subst, Err}
+use Rattle.lx_desk.proofs.Imports.{EndsJob, EndsScript, inl, inr, None, arith, known_since, refl, sym, ap, ◌∙◌, subst, Err}
 use Rattle.lx_desk.proofs.Finishing.{finishes_as, refused_accounts, rose_since}
 use Rattle.lx_desk.proofs.Endings.{refusal_ends}
 use Rattle.lx_desk.proofs.CrewEnds.{crew_ended, crew_front, refused_cause, refused_ended, refused_front, served_cause}
@@ -13,8 +13,8 @@ returns-in-Ok g c =
     let kept = r.kept (λ odd. cc) ∙ ap g.I.Source.faults l.source in
     record {
       words = (λ is. subst EndsScript is t.works, λ is. subst EndsScript is t.works, t.places);
-      ended = rw (← l.unread) (crew_ended r.answer l.taken (t.served false (λ no. absurd cc)) _);
-      spared = λ stood. rw (← l.unread) (crew_ended r.answer l.taken (t.served true (λ is. stood_since _ _ _ r.cause.later stood)) _);
+      ended = rw (← l.unread) (crew_ended r.answer l.taken (t.served None tt) _);
+      spared = λ most known. rw (← l.unread) (crew_ended r.answer l.taken (t.served most (known_since most _ _ _ r.cause.later known)) _);
       prefix = rw (← l.unread) (crew_front r.answer t.prefix);
       cause = served_cause _ c.serve.result _ _ _ _ _ _ _ (ap g.I.Source.faults same ∙ kept) t.works t.read t.none_failed t.write;
       finished = rw same (finishes_as (λ done. kept) (t.finished 0));
@@ -43,9 +43,9 @@ returns-in-Err g c =
         λ is. subst EndsJob is (refusal_ends t.refused),
         record { same_places = refl; full = c.requires.full; others = refl },
       );
-      ended = rw (same, ← l.unread) (refused_ended c.args.form c.args.count false g.I.Source g.S.Source c.new-lines.result
+      ended = rw (same, ← l.unread) (refused_ended c.args.form c.args.count None g.I.Source g.S.Source c.new-lines.result
           c.read_show_in.new.lines c.args.operators.now l.taken r.answer t.refused);
-      spared = λ stood. rw (same, ← l.unread) (refused_ended c.args.form c.args.count true g.I.Source g.S.Source c.new-lines.result
+      spared = λ most known. rw (same, ← l.unread) (refused_ended c.args.form c.args.count most g.I.Source g.S.Source c.new-lines.result
           c.read_show_in.new.lines c.args.operators.now l.taken r.answer t.refused);
       prefix = rw (← l.unread) (refused_front c.args.form c.args.count g.I.Source g.S.Source c.new-lines.result c.read_show_in.new.lines
           c.args.operators.now r.answer t.refused);

@@ -21,7 +21,7 @@ returns-in-Ok-crew_in g c =
     let i : InUse c.args.count c.args.operators.now _ c.split_at_mut-used.result.1.now =
     record { front = s.front; count = s.front_len; back = s.back } in
     serves_over _ _ c.crew_in.new.operators i most c.requires.full c.in-Ok.ensures.cause.later e.later e.queues_later
-    (λ ample sure. e.crewed ample sure (opened c.args.show) c.in-Ok.ensures.stands) e.cause e.handed_on c.status_of_crew.ensures
+    (λ known refused. e.crewed known refused (opened c.args.show) c.in-Ok.ensures.stands) e.cause e.handed_on c.status_of_crew.ensures
 
 pub returns : goal.returns
 returns g c =

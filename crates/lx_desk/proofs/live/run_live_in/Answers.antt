@@ -1,4 +1,4 @@
-use Rattle.lx_desk.proofs.Imports.{EndsJob, EndsScript, inl, inr, refl, arith, stood_since, sym, ap, ◌∙◌, subst, Err}
+use Rattle.lx_desk.proofs.Imports.{EndsJob, EndsScript, inl, inr, refl, arith, known_since, sym, ap, ◌∙◌, subst, Err}
 use Rattle.lx_desk.proofs.Finishing.{as_live_cause, finishes_as, refused_accounts, rose_since}
 use Rattle.lx_desk.proofs.Inputs.{refusal_isnt_ok}
 use Rattle.lx_desk.proofs.Endings.{refusal_ends}
@@ -14,11 +14,11 @@ returns-in-Ok g c =
     let kept = r.kept (λ odd. cc) ∙ ap g.S.Source.faults l.source in
     record {
       outlets = (λ is. subst EndsScript is p.works, p.played, λ is. subst EndsScript is p.works, p.finish);
-      ended = λ ample stood sent. rw (same, ← l.unread) (live_ended r.answer l.taken ample g.K.Sink c.args.universes _ _ _ _ _ _
-          (p.ended ample (λ is. stood_since _ _ _ r.cause.later (stood is)) sent));
+      ended = λ known refused sent. rw (same, ← l.unread) (live_ended r.answer l.taken known g.K.Sink c.args.universes _ _ _ _ _ _
+          (p.ended known (known_since known.edits _ _ _ r.cause.later refused) sent));
       cause = rw (same, ← kept) p.cause;
-      order = λ ample stood sent. rw (same, ← kept, ← l.unread) (live_order r.answer l.taken ample g.K.Sink c.args.universes _ _ _ _ _ _ _ _ _ _
-          (p.order ample (λ is. stood_since _ _ _ r.cause.later (stood is)) sent));
+      order = λ known refused sent. rw (same, ← kept, ← l.unread) (live_order r.answer l.taken known g.K.Sink c.args.universes _ _ _ _ _ _ _ _ _ _
+          (p.order known (known_since known.edits _ _ _ r.cause.later refused) sent));
       finished = rw same (finishes_as (λ done. p.finished.reads_kept done ∙ kept) p.finished);
       wanted = λ is. elim (p.wanted is) [
         | inl heaps ↦ inl (elim heaps [ inl refused ↦ inl (rose_since _ _ _ r.cause.later refused) | inr writer ↦ inr writer ])
@@ -43,10 +43,10 @@ returns-in-Err g c =
         λ is. subst EndsJob is (refusal_ends t.refused),
         λ ok place start within at. refusal_isnt_ok _ t.refused ok,
       );
-      ended = λ ample stood sent. rw (same, ← l.unread) (refused_lived ample c.args.form c.args.universes g.S.Source g.K.Sink c.new-lines.result
+      ended = λ known refused sent. rw (same, ← l.unread) (refused_lived known c.args.form c.args.universes g.S.Source g.K.Sink c.new-lines.result
           c.read_show_in.new.lines c.args.outlets.now c.refuse.result l.taken r.answer t.refused);
       cause = rw (same, ← before) (as_live_cause g.K.Sink c.refuse.result _ _ _ _ _ _ (λ is. refl) a.cause);
-      order = λ ample stood sent. order_refused c.refuse.result _ _ g.O.Sink _ _ c.args.outlets.now _ t.write t.memory;
+      order = λ known refused sent. order_refused c.refuse.result _ _ g.O.Sink _ _ c.args.outlets.now _ t.write t.memory;
       finished = rw (same, ← before) a.finished;
       wanted = λ is. elim (a.wanted is) [ inl refused ↦ inl (inl refused) | inr sink ↦ inr (inl sink) ];
       later = r.cause.later;

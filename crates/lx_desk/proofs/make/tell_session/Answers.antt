@@ -1,4 +1,4 @@
-use Rattle.lx_desk.proofs.Imports.{refl, arith, EndsScript, opened, stood_since}
+use Rattle.lx_desk.proofs.Imports.{refl, arith, EndsScript, opened, known_since}
 use Rattle.lx_desk.specs.declared.desk.Status.TheVariants as status
 use Rattle.lx_desk.proofs.Inputs.{by_kind}
 use Rattle.lx_desk.proofs.Finishing.{accounts_since}
@@ -14,10 +14,10 @@ returns-in-Ok-session_in g c =
     let t = c.finish.ensures (g.H.Heap.refusals c.session_in.new.heap) c.args.output.now _ c.put_report.ensures in
     record {
       works = by_kind status.Ok c.finish.result EndsScript t.kinds tt tt tt;
-      ended = λ ample stood.
-          session_told c.args.cues _ (opened c.args.show) _ _ _ _ _ c.in-Ok-session_in.tally c.report_on.result c.report_on.ensures ample _ _
+      ended = λ most known.
+          session_told c.args.cues _ (opened c.args.show) _ _ _ _ _ c.in-Ok-session_in.tally c.report_on.result c.report_on.ensures most _ _
           c.finish.result t.kinds t.whole t.front
-          (s.outcome ample (λ is. stood_since _ _ _ c.in-Ok.ensures.cause.later (stood is)) (opened c.args.show) c.in-Ok.ensures.stands) s.limit;
+          (s.outcome most (known_since most _ _ _ c.in-Ok.ensures.cause.later known) (opened c.args.show) c.in-Ok.ensures.stands) s.limit;
       accounts = accounts_since (omega (arith, c.in-Ok.ensures.cause.later, s.later)) s.cause.kept.0
           (t.accounts (g.S.Source.faults c.session_in.new.lines.source.now));
     }

@@ -6,7 +6,7 @@ pub returns-in-Ok-clause-plays : goal.returns-in-Ok-clause-plays
 returns-in-Ok-clause-plays g c =
     let s = c.session_in.ensures in
     session_plays (desk_lawful true) _ _ _ c.status_of.ensures c.in-Ok.ensures.cause.later s.later
-    (λ ample stood. s.outcome ample stood (opened c.args.show) c.in-Ok.ensures.stands) s.limit s.cause s.handed_on
+    (λ most known. s.outcome most known (opened c.args.show) c.in-Ok.ensures.stands) s.limit s.cause s.handed_on
 
 pub returns-in-Err-clause-plays : goal.returns-in-Err-clause-plays
 returns-in-Err-clause-plays g c = nothing_plays c.in-Err.ensures.cause.later c.in-Err.ensures.cause.failed

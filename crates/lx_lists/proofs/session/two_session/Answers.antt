@@ -1,5 +1,5 @@
-use Rattle.std.specs.Prelude.{false}
+use Rattle.std.specs.Prelude.{None}
 use Rattle.lx_lists.proofs.session.two_session.Goals as goal
 
 pub returns-clause-outcome : goal.returns-clause-outcome
-returns-clause-outcome g c = λ state stands. c.two_session_in.ensures.outcome false (λ no. absurd cc) state stands
+returns-clause-outcome g c = λ state stands. c.two_session_in.ensures.outcome None tt state stands

@@ -1,4 +1,4 @@
-use Rattle.lx_program.proofs.Imports.{◌≡◌, map, string_bytes, refl, inl, true, false, Option, Some, None, IfSome, Job, Script, Crew, Live, job_of, unwritten}
+use Rattle.lx_program.proofs.Imports.{◌≡◌, map, string_bytes, refl, inl, Option, Some, None, IfSome, Job, Script, Crew, Live, job_of, unwritten}
 use Rattle.std.proofs.Common.{◌⊎◌, inr}
 use Rattle.std.proofs.lemmas.Option.{IfSome_then}
 use Rattle.lx_desk.specs.Endings.{AnswersJob, AnswersWords, at_once}
@@ -45,23 +45,23 @@ returns-in-Ok-clause-prefix g c = rw c.in-Ok.ensures.job c.run_job_in.ensures.pr
 pub returns-in-Err-Memory-clause-ended : goal.returns-in-Err-Memory-clause-ended
 returns-in-Err-Memory-clause-ended g c =
     of_each_job (job_of (map string_bytes c.args.words.now)) (g.S.Source.left c.args.input.now) _
-    (λ job bytes. unwritten false job bytes (g.K.Sink.holds c.args.output.now))
+    (λ job bytes. unwritten None job bytes (g.K.Sink.holds c.args.output.now))
 
 pub returns-in-Err-Memory-clause-prefix : goal.returns-in-Err-Memory-clause-prefix
 returns-in-Err-Memory-clause-prefix g c =
     of_each_job (job_of (map string_bytes c.args.words.now)) (g.S.Source.left c.args.input.now) _
-    (λ job bytes. unwritten false job bytes (g.K.Sink.holds c.args.output.now))
+    (λ job bytes. unwritten None job bytes (g.K.Sink.holds c.args.output.now))
 
 pub returns-in-Ok-clause-spared : goal.returns-in-Ok-clause-spared
-returns-in-Ok-clause-spared g c = λ stood. rw c.in-Ok.ensures.job (c.run_job_in.ensures.spared stood)
+returns-in-Ok-clause-spared g c = λ most known. rw c.in-Ok.ensures.job (c.run_job_in.ensures.spared most known)
 
 pub returns-in-Ok-clause-wanted : goal.returns-in-Ok-clause-wanted
 returns-in-Ok-clause-wanted g c = λ is. inr (c.run_job_in.ensures.wanted is)
 
 pub returns-in-Err-Memory-clause-spared : goal.returns-in-Err-Memory-clause-spared
-returns-in-Err-Memory-clause-spared g c = λ stood.
+returns-in-Err-Memory-clause-spared g c = λ most known.
     of_each_job (job_of (map string_bytes c.args.words.now)) (g.S.Source.left c.args.input.now) _
-    (λ job bytes. unwritten true job bytes (g.K.Sink.holds c.args.output.now))
+    (λ job bytes. unwritten most job bytes (g.K.Sink.holds c.args.output.now))
 
 pub returns-in-Err-Memory-clause-wanted : goal.returns-in-Err-Memory-clause-wanted
 returns-in-Err-Memory-clause-wanted g c = λ is. inl (c.in-Err-Memory.ensures.cause.failed c.in-Err-Memory.field-0-is, (refl, (refl, refl)))

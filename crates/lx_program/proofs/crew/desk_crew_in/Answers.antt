@@ -1,4 +1,4 @@
-use Rattle.lx_program.proofs.Imports.{inl, ap, refl, true, false, map, string_bytes, job_of}
+use Rattle.lx_program.proofs.Imports.{inl, ap, refl, None, map, string_bytes, job_of}
 use Rattle.std.proofs.Common.{inr, Err}
 use Rattle.lx_spec.specs.Reading.{reads}
 use Rattle.lx_desk.proofs.CrewEnds.{nothing_front}
@@ -16,13 +16,13 @@ returns-in-Err-Memory-clause-prefix g c =
 pub returns-in-Err-Memory-clause-ended : goal.returns-in-Err-Memory-clause-ended
 returns-in-Err-Memory-clause-ended g c =
     of_any_crew _ _ _
-    (inr (λ count form bytes. none_served false g.S.Source count form bytes (g.I.Source.left c.args.input.now)
+    (inr (λ count form bytes. none_served None g.S.Source count form bytes (g.I.Source.left c.args.input.now)
     (g.K.Sink.holds c.args.output.now) c.args.operators.now))
 
 pub returns-in-Err-Memory-clause-spared : goal.returns-in-Err-Memory-clause-spared
-returns-in-Err-Memory-clause-spared g c = λ stood.
+returns-in-Err-Memory-clause-spared g c = λ most known.
     of_any_crew _ _ _
-    (inr (λ count form bytes. none_served true g.S.Source count form bytes (g.I.Source.left c.args.input.now)
+    (inr (λ count form bytes. none_served most g.S.Source count form bytes (g.I.Source.left c.args.input.now)
     (g.K.Sink.holds c.args.output.now) c.args.operators.now))
 
 pub returns-in-Err-Memory-clause-wanted : goal.returns-in-Err-Memory-clause-wanted
@@ -45,7 +45,7 @@ pub returns-in-Err-Usage-clause-ended : goal.returns-in-Err-Usage-clause-ended
 returns-in-Err-Usage-clause-ended g c = of_any_crew _ _ _ (inl (c.in-Err-Usage.ensures.usage (ap Err c.in-Err-Usage.field-0-is)))
 
 pub returns-in-Err-Usage-clause-spared : goal.returns-in-Err-Usage-clause-spared
-returns-in-Err-Usage-clause-spared g c = λ stood. of_any_crew _ _ _ (inl (c.in-Err-Usage.ensures.usage (ap Err c.in-Err-Usage.field-0-is)))
+returns-in-Err-Usage-clause-spared g c = λ most known. of_any_crew _ _ _ (inl (c.in-Err-Usage.ensures.usage (ap Err c.in-Err-Usage.field-0-is)))
 
 pub returns-in-Err-Usage-clause-prefix : goal.returns-in-Err-Usage-clause-prefix
 returns-in-Err-Usage-clause-prefix g c = of_any_crew _ _ _ (inl (c.in-Err-Usage.ensures.usage (ap Err c.in-Err-Usage.field-0-is)))

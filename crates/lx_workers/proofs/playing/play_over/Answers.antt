@@ -3,6 +3,7 @@ use Rattle.lx_workers.proofs.Imports.{append-nil, HasAccepted, Published, opened
 use Rattle.lx_workers.proofs.PlacesKept.{full_at, is_back}
 use Rattle.lx_work.proofs.Places.{get_within, zip_at}
 use Rattle.lx_session.proofs.Stood.{stood_since}
+use Rattle.lx_session.proofs.Refusals.{known_since}
 use Rattle.lx_workers.proofs.Runs.{in_step_at, outcomes_as}
 use Rattle.lx_workers.proofs.playing.play_over.Goals as goal
 
@@ -43,7 +44,7 @@ returns-clause-writers_later g c =
     omega (arith, opened, later)
 
 pub returns-clause-played : goal.returns-clause-played
-returns-clause-played g c = λ ample stood.
+returns-clause-played g c = λ most known.
     let room = c.in_ok-lanes.ensures.cause.later in
     let before = c.in_ok-gate.ensures.later in
     let run = rw c.in-Some.is at c.perform-lanes.ensures.engine in
@@ -56,9 +57,9 @@ returns-clause-played g c = λ ample stood.
           let none : c.in_ok-gate.gate.published ++ [] ≡ [] = append-nil _ ∙ ap (λ (g : Published). g.published) c.in_ok-gate.ensures.gate in
           let gate = c.in-Some.gate in
           let unsent = c.perform-lanes.new.unsent in
-          outcomes_as ample _ _ refl (HasAccepted c.in_ok-gate.gate [] gate unsent) (λ commands. commands ≡ gate.published ++ unsent)
+          outcomes_as most _ _ refl (HasAccepted c.in_ok-gate.gate [] gate unsent) (λ commands. commands ≡ gate.published ++ unsent)
           (λ commands accepted. sym (accepted ∙ ap (λ l. l ++ commands) none)) _ (opened g.G.Origin.show) _ _ _ _ _ _ _
-          (run.outcome ample (λ e. stood_since _ _ _ (omega (arith, room, before)) (stood e)) (opened g.G.Origin.show) c.requires.opened);
+          (run.outcome most (known_since most _ _ _ (omega (arith, room, before)) known) (opened g.G.Origin.show) c.requires.opened);
       outlets_are = record {
         same_places = c.give_back-faults.ensures.same ∙ c.fill_lanes-lanes.ensures.same;
         each = λ place start is.
